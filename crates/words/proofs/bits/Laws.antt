@@ -1,0 +1,138 @@
+-- What the turns of the loops keep, and the parts that are lent.
+-- Assumes nothing.
+use mathlib.Core.Path.{_≡_, refl, sym, ap, ap₂, _∙_}
+use mathlib.Core.Bool.{Bool, true, false, cond}
+use mathlib.Core.List.{List, [], _∷_, _++_}
+use Prim.Native.Nat.{ℕ, zero, suc, _+_, _-_, _*_, _/_, _%_, _^_, _≤_, _<_, min}
+use native.Mathlib.Nat.{zero-min, min-zero, suc-min-suc, lt-of-lt-of-le, add-zero}
+use native.Mathlib.Numerals.{add-one}
+use native.Mathlib.Omega.{arith}
+use lib.Dec.{lit<}
+use lib.IntN.{ℤ, pos, negsuc}
+use lib.ListN.{length, getD, take, drop, set, drop-of-length-le, length-drop, length-take}
+use lib.Pow.{pow-mono}
+use lib.Seq.{drop-cons, take-suc, sets, set-comm}
+use lib.Signed.{mag, ltZ}
+use mir.Syntax.{w64}
+use mir.Val.{SFits, toZ, ofZ}
+use mir.ValLaws.{toZ-ofZ}
+use borrow.Author.Tests.{lt-ltb, le-ltb, ltb-true}
+use Rattle.words.specs.Bits.{firstNotBit, valueOf, bitsOf, signedOf, partAt, putAnswer, putBytes}
+use Rattle.words.specs.Refusal.{LENGTH, refusedAt}
+use Rattle.words.specs.declared.refusal.Answer.{Answer}
+use Rattle.words.specs.declared.refusal.Answer.the-variants.{Done}
+use Rattle.words.specs.Laws.Digits.{value-snoc, length-bits, bits-snoc}
+use Rattle.words.specs.Laws.Signs.{signed-mag}
+
+-- ---- the first byte that is no bit, from a place on
+
+pub bit-here : (l : List ℕ) (i : ℕ) → i < length l → getD l i 0 ≤ 1
+    → i + firstNotBit (drop i l) ≡ i + 1 + firstNotBit (drop (i + 1) l)
+unfolding firstNotBit
+bit-here l i h b =
+    ap (λ (x : List ℕ). i + firstNotBit x) (drop-cons l i 0 h)
+    ∙ ap (λ (t : Bool). i + cond t (suc (firstNotBit (drop (suc i) l))) 0) (lt-ltb (getD l i 0) 2 (omega arith))
+    ∙ ap (λ (n : ℕ). i + suc (firstNotBit (drop n l))) (sym (add-one i))
+    ∙ omega arith
+
+pub no-bit-here : (l : List ℕ) (i : ℕ) → i < length l → 1 < getD l i 0 → i + firstNotBit (drop i l) ≡ i
+unfolding firstNotBit
+no-bit-here l i h b =
+    ap (λ (x : List ℕ). i + firstNotBit x) (drop-cons l i 0 h)
+    ∙ ap (λ (t : Bool). i + cond t (suc (firstNotBit (drop (suc i) l))) 0) (le-ltb (getD l i 0) 2 b)
+    ∙ omega arith
+
+pub no-more : (l : List ℕ) (i : ℕ) → length l ≤ i → i + firstNotBit (drop i l) ≡ i
+unfolding firstNotBit
+no-more l i h = ap (λ (x : List ℕ). i + firstNotBit x) (drop-of-length-le l h) ∙ omega arith
+
+-- ---- one more bit read
+
+pub value-more : (l : List ℕ) (i : ℕ) → i < length l → valueOf (take (i + 1) l) ≡ valueOf (take i l) * 2 + getD l i 0 % 2
+value-more l i h =
+    ap (λ (k : ℕ). valueOf (take k l)) (add-one i) ∙ ap valueOf (take-suc l i 0 h) ∙ value-snoc (take i l) (getD l i 0)
+
+-- ---- a part that ends with the list
+
+pub take-least : (n : ℕ) (l : List ℕ) → take (min n (length l)) l ≡ take n l
+take-least zero l = ap (λ (k : ℕ). take k l) (zero-min (length l))
+take-least (suc n) [] = ap (λ (k : ℕ). take k []) (min-zero (suc n))
+take-least (suc n) (x ∷ l) =
+    ap (λ (k : ℕ). take k (x ∷ l)) (suc-min-suc n (length l)) ∙ ap (λ (r : List ℕ). x ∷ r) (take-least n l)
+
+pub drop-least : (n : ℕ) (l : List ℕ) → drop (min n (length l)) l ≡ drop n l
+drop-least zero l = ap (λ (k : ℕ). drop k l) (zero-min (length l))
+drop-least (suc n) [] = ap (λ (k : ℕ). drop k []) (min-zero (suc n))
+drop-least (suc n) (x ∷ l) = ap (λ (k : ℕ). drop k (x ∷ l)) (suc-min-suc n (length l)) ∙ drop-least n l
+
+pub part-is : (l : List ℕ) (at w from count : ℕ) → from ≡ min at (length l) → count ≡ min (min w 64) (length l - from)
+    → take (from + count - from) (drop from l) ≡ partAt l at w
+part-is l at w from count e f =
+    let cancel : from + count - from ≡ count = omega arith in
+    let same : drop from l ≡ drop at l = ap (λ (k : ℕ). drop k l) e ∙ drop-least at l in
+    let rest : length l - from ≡ length (drop at l) = sym (length-drop from l) ∙ ap length same in
+    ap₂ take (cancel ∙ f ∙ ap (min (min w 64)) rest) same ∙ take-least (min w 64) (drop at l)
+
+pub length-part : (l : List ℕ) (at w : ℕ) → length (partAt l at w) ≤ 64
+length-part l at w = omega (arith, length-take (min w 64) (drop at l))
+
+-- ---- a number with a sign of at most 64 bits
+
+pub signed-fits : (l : List ℕ) → length l ≤ 64 → mag (signedOf l) < 2 ^ 63
+unfolding signedOf valueOf
+signed-fits [] h = lit< tt
+signed-fits (b ∷ l) h = lt-of-lt-of-le (signed-mag b l) (pow-mono {i = length l} {j = 63} (omega arith))
+
+pub signed-none : (l : List ℕ) → length l ≡ 0 → pos 0 ≡ signedOf l
+unfolding signedOf valueOf
+signed-none [] e = refl
+signed-none (b ∷ l) e = absurd (omega arith)
+
+-- ---- tests of machine numbers with a sign
+
+-- a test as a branch leaves it, said of the number
+pub tested : (z y : ℤ) (t : Bool) → SFits w64 z → ltZ (toZ w64 (ofZ w64 z)) y ≡ t → ltZ z y ≡ t
+tested z y t f e = sym (ap (λ (x : ℤ). ltZ x y) (toZ-ofZ w64 z f)) ∙ e
+
+pub below-zero-is : (z : ℤ) → ltZ z (pos 0) ≡ true → z ≡ negsuc (mag z)
+below-zero-is (pos n) t = absurd (omega (arith, ltb-true n 0 t))
+below-zero-is (negsuc n) t = refl
+
+pub not-below-zero-is : (z : ℤ) → ltZ z (pos 0) ≡ false → z ≡ pos (mag z)
+not-below-zero-is (pos n) t = refl
+not-below-zero-is (negsuc n) t = absurd (let z : _≡_ {A = ℕ} 0 1 = cc in omega arith)
+
+-- ---- one more bit put, the lowest first
+
+sets-snoc : (l : List ℕ) (i : ℕ) (bits : List ℕ) (b : ℕ) → sets l i (bits ++ (b ∷ [])) ≡ sets (set l (i + length bits) b) i bits
+sets-snoc l i [] b = ap (λ (k : ℕ). set l k b) (sym (add-zero i))
+sets-snoc l i (a ∷ bits) b =
+    sets-snoc (set l i a) (suc i) bits b
+    ∙ ap (λ (x : List ℕ). sets x (suc i) bits)
+    (set-comm l i (suc i + length bits) a b (λ e. omega arith)
+    ∙ ap (λ (k : ℕ). set (set l k b) i a) (let e : suc i + length bits ≡ i + suc (length bits) = omega arith in e))
+
+-- as a loop that counts down has it
+pub bits-left : (l : List ℕ) (at w n : ℕ) → 0 < w
+    → sets (set l (at + (w - 1)) (n % 2)) at (bitsOf (w - 1) (n / 2)) ≡ sets l at (bitsOf w n)
+bits-left l at w n h =
+    let less : suc (w - 1) ≡ w = omega arith in
+    ap (λ (k : ℕ). sets (set l (at + k) (n % 2)) at (bitsOf (w - 1) (n / 2))) (sym (length-bits (w - 1) (n / 2)))
+    ∙ sym (sets-snoc l at (bitsOf (w - 1) (n / 2)) (n % 2))
+    ∙ ap (sets l at) (sym (bits-snoc (w - 1) n) ∙ ap (λ (k : ℕ). bitsOf k n) less)
+
+pub none-left : (l : List ℕ) (at w n : ℕ) → w ≤ 0 → sets l at (bitsOf w n) ≡ l
+unfolding bitsOf
+none-left l at zero n h = refl
+none-left l at (suc w) n h = absurd (omega arith)
+
+-- ---- what putting answers and leaves
+
+pub put-refused : (fits : Bool) (r : Answer) (l : List ℕ) (at : ℕ) (bits : List ℕ) → fits ≡ false → r ≡ refusedAt LENGTH 0
+    → (r ≡ putAnswer fits) × (l ≡ putBytes fits l at bits)
+put-refused fits r l at bits e f =
+    (f ∙ ap putAnswer (sym e), ap (λ (t : Bool). putBytes t l at bits) (sym e))
+
+pub put-done : (fits : Bool) (l out : List ℕ) (at : ℕ) (bits : List ℕ) → fits ≡ true → out ≡ sets l at bits
+    → (Done ≡ putAnswer fits) × (out ≡ putBytes fits l at bits)
+put-done fits l out at bits e f = (ap putAnswer (sym e), f ∙ ap (λ (t : Bool). putBytes t l at bits) (sym e))

@@ -1,0 +1,48 @@
+-- `words::bits::put_number` meets its contract. Assumes nothing.
+use mathlib.Core.Path.{sym, _∙_}
+use mathlib.Core.Bool.{and-eq-true-iff}
+use Prim.Native.Nat.{_+_, _^_}
+use lib.Dec.{ltb}
+use lib.ListN.{length}
+use borrow.Author.Tests.{leb-true}
+use Rattle.words.specs.Bits.{bitsOf, within, fitsNumber}
+use Rattle.words.proofs.bits.Laws.{put-done, put-refused}
+use borrow.Author.Needs.{needs}
+use Rattle.words.proofs.bits.put_number.Statement.{statement}
+use Rattle.words.proofs.bits.put_number.Tie as tie
+
+fits-number-requires : tie.Need-fits-number-requires
+fits-number-requires c κs = search needs
+
+put-bits-requires : tie.Need-put-bits-requires
+put-bits-requires c κs =
+    let args = c .before .before .before .before .args in
+    leb-true (args .at + args .width) (length (args .bytes .now))
+    (and-eq-true-iff (within (args .bytes .now) (args .at) (args .width)) (ltb (args .number) (2 ^ args .width)) .0
+    (sym (c .before .before .fits-number .ensures) ∙ c .before .if1 .taken) .0)
+
+same-length : tie.Need-same-length
+same-length c = search needs
+
+returns : tie.Need-returns
+returns c =
+    let args = c .before .before .before .before .before .before .before .args in
+    put-done (fitsNumber (args .bytes .now) (args .at) (args .width) (args .number)) (args .bytes .now) (c .before .before .put-bits .last .0)
+    (args .at) (bitsOf (args .width) (args .number))
+    (sym (c .before .before .before .before .before .fits-number .ensures) ∙ c .before .before .before .before .if1 .taken)
+    (c .before .before .put-bits .ensures)
+
+refuse-requires : tie.Need-refuse-requires
+refuse-requires c κs = search needs
+
+returns-2 : tie.Need-returns-2
+returns-2 c =
+    let args = c .before .before .before .before .args in
+    put-refused (fitsNumber (args .bytes .now) (args .at) (args .width) (args .number)) (c .refuse .result) (args .bytes .now)
+    (args .at) (bitsOf (args .width) (args .number)) (sym (c .before .before .fits-number .ensures) ∙ c .before .if1 .left)
+    (c .refuse .ensures)
+
+pub put-number-spec : {M : Type 1} → statement M
+put-number-spec =
+    tie.close
+    (tie.spec fits-number-requires put-bits-requires same-length returns refuse-requires returns-2)

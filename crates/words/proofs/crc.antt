@@ -1,0 +1,2 @@
+-- What the proofs of `crc` use.
+mod Laws

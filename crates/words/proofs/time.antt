@@ -1,0 +1,2 @@
+-- What the proofs of `time` use.
+mod Laws

@@ -1,0 +1,11 @@
+-- The laws below the theorems and the functions' proofs.
+pub mod Tests
+pub mod Digits
+pub mod Signs
+pub mod Sums
+pub mod Xor
+pub mod Crc
+pub mod Runs
+pub mod TwoBlocks
+pub mod Words
+pub mod Nearest

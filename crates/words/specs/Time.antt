@@ -1,0 +1,66 @@
+-- The time word (document 01, "Time word"; IS-GPS-800, 3.2.3.2 and Figure 3.2-4).
+-- Assumes nothing.
+use mathlib.Core.Bool.{Bool, cond, _&&_}
+use mathlib.Core.List.{List, [], _∷_, _++_, map}
+use Prim.Native.Nat.{ℕ, zero, suc, _+_, _-_, _/_, _%_, _^_}
+use lib.Dec.{leb, ltb, eqb}
+use lib.ListN.{length, getD, drop}
+use Rattle.words.specs.Bits.{bitsOf, firstNotBit}
+use Rattle.words.specs.Sums.{add2, differing}
+use Rattle.words.specs.Refusal.{LENGTH, NOT-A-BIT, TIME, refusedAt, doneIf}
+use Rattle.words.specs.declared.refusal.Answer.{Answer}
+use Rattle.words.specs.declared.refusal.Answer.the-variants.{Done}
+use Rattle.words.specs.declared.time.Time.{Time}
+
+-- the register holds the last eight symbols, the oldest first: the symbol k places before the next one
+abbrev pub back : ℕ → List ℕ → ℕ
+back k register = getD register (8 - k) 0
+
+-- the next symbol: the sum modulo 2 of the ones 1, 4, 5, 6, 7 and 8 places before it
+abbrev pub nextSymbol : List ℕ → ℕ
+nextSymbol r = (back 1 r + back 4 r + back 5 r + back 6 r + back 7 r + back 8 r) % 2
+
+-- one shift: the oldest symbol leaves, and the next one comes in
+abbrev pub shifted : List ℕ → List ℕ
+shifted r = drop 1 r ++ (nextSymbol r ∷ [])
+
+-- the symbols that leave a register in n shifts
+unfoldable pub shiftedOut : ℕ → List ℕ → List ℕ
+shiftedOut zero r = []
+shiftedOut (suc n) r = back 8 r ∷ shiftedOut n (shifted r)
+
+-- the top one of a time's nine bits
+abbrev pub topBit : ℕ → ℕ
+topBit toi = toi / 2 ^ 8 % 2
+
+-- 51 symbols from the low eight bits, the top bit added modulo 2 to all, and the top bit sent before them
+unfoldable pub timeWord : ℕ → List ℕ
+timeWord toi = topBit toi ∷ map (add2 (topBit toi)) (shiftedOut 51 (bitsOf 8 toi))
+
+-- writing: 1 unless 52 bytes are lent, then 3 for a time over 399; on a refusal the bytes stay
+abbrev pub timeAnswer : List ℕ → ℕ → Answer
+timeAnswer out toi = cond (eqb (length out) 52) (doneIf (leb toi 399) TIME 0) (refusedAt LENGTH 0)
+
+abbrev pub timeBytes : List ℕ → ℕ → List ℕ
+timeBytes out toi = cond (eqb (length out) 52 && leb toi 399) (timeWord toi) out
+
+-- what reading gives: a time, with the number of symbols that differ from its word; or a refusal, with zeros beside it
+abbrev pub timeIs : ℕ → ℕ → Time
+timeIs toi corrected = record { answer = Done; toi = toi; corrected = corrected }
+
+abbrev pub noTime : ℕ → ℕ → Time
+noTime number place = record { answer = refusedAt number place; toi = 0; corrected = 0 }
+
+-- of the n times from `toi` on, the first whose word differs in at most nine symbols; refused 3 at 0 if there is none
+unfoldable pub nearest : ℕ → ℕ → List ℕ → Time
+nearest zero toi s = noTime TIME 0
+nearest (suc n) toi s =
+    cond (leb (differing s (timeWord toi)) 9) (timeIs toi (differing s (timeWord toi))) (nearest n (suc toi) s)
+
+-- reading: 1 unless there are 52 symbols, then 2 at the first byte that is no bit, then the time from 0 to 399
+unfoldable pub timeRead : List ℕ → Time
+unfolding nearest
+timeRead s =
+    cond (eqb (length s) 52)
+    (cond (eqb (firstNotBit s) (length s)) (nearest 400 0 s) (noTime NOT-A-BIT (firstNotBit s)))
+    (noTime LENGTH 0)
