@@ -41,8 +41,8 @@ unsignedOf w (pos n) = n
 unsignedOf w (negsuc n) = 2 ^ w - suc n
 
 -- w bits hold z with a sign: z is from -(2 ^ (w - 1)) to 2 ^ (w - 1) - 1, and w from 1 to 64
-abbrev pub holds : ℕ → ℤ → Bool
-holds w z = leb 1 w && (leb w 64 && ltb (mag z) (2 ^ (w - 1)))
+abbrev pub holdsSigned : ℕ → ℤ → Bool
+holdsSigned w z = leb 1 w && (leb w 64 && ltb (mag z) (2 ^ (w - 1)))
 
 -- what is taken: w bits from the index `at` on, at most 64, as far as they are there
 abbrev pub partAt : List ℕ → ℕ → ℕ → List ℕ
@@ -58,7 +58,7 @@ fitsNumber l at w n = within l at w && ltb n (2 ^ w)
 
 -- z can be put there: w bits hold it with a sign
 abbrev pub fitsSigned : List ℕ → ℕ → ℕ → ℤ → Bool
-fitsSigned l at w z = within l at w && holds w z
+fitsSigned l at w z = within l at w && holdsSigned w z
 
 -- putting bits from the index `at` on is refused 1 at 0 unless they fit
 abbrev pub putAnswer : Bool → Answer
@@ -67,3 +67,17 @@ putAnswer fits = doneIf fits LENGTH 0
 -- the bytes then: the bits from `at` on, and the others as they were; on a refusal all as they were
 abbrev pub putBytes : Bool → List ℕ → ℕ → List ℕ → List ℕ
 putBytes fits l at bits = cond fits (sets l at bits) l
+
+-- putting the number n: the answer, and the bytes then
+abbrev pub numberAnswer : List ℕ → ℕ → ℕ → ℕ → Answer
+numberAnswer l at w n = putAnswer (fitsNumber l at w n)
+
+abbrev pub numberBytes : List ℕ → ℕ → ℕ → ℕ → List ℕ
+numberBytes l at w n = putBytes (fitsNumber l at w n) l at (bitsOf w n)
+
+-- putting z with a sign: the answer, and the bytes then
+abbrev pub signedAnswer : List ℕ → ℕ → ℕ → ℤ → Answer
+signedAnswer l at w z = putAnswer (fitsSigned l at w z)
+
+abbrev pub signedBytes : List ℕ → ℕ → ℕ → ℤ → List ℕ
+signedBytes l at w z = putBytes (fitsSigned l at w z) l at (bitsOf w (unsignedOf w z))

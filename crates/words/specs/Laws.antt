@@ -2,6 +2,7 @@
 pub mod Tests
 pub mod Digits
 pub mod Signs
+pub mod Puts
 pub mod Sums
 pub mod Xor
 pub mod Crc

@@ -5,6 +5,7 @@ pub mod Bits
 pub mod Sums
 pub mod Crc
 pub mod Time
+pub mod Determined
 pub mod RoundTrip
 pub mod Checked
 pub mod Noticed

@@ -1,6 +1,6 @@
 -- THEOREMS: how far time words are from one another, and that what is read is the one time within nine.
 -- Assumes nothing.
-use mathlib.Core.Path.{_≡_, refl, sym, ap, ap₂, _∙_, subst}
+use mathlib.Core.Path.{_≡_, refl, sym, ap, _∙_, subst}
 use mathlib.Core.Bool.{Bool, true, false}
 use mathlib.Core.List.{List}
 use mathlib.Core.Logic.{_↔_}
@@ -11,10 +11,9 @@ use lib.Dec.{eqb, leb}
 use lib.ListN.{length}
 use borrow.Author.Tests.{eqb-true, eqb-false, leb-true, leb-false}
 use Rattle.words.specs.Bits.{IsBits}
-use Rattle.words.specs.Sums.{sums, weight, differing}
-use Rattle.words.specs.Refusal.{TIME, numberOf}
+use Rattle.words.specs.Sums.{weight, differing}
+use Rattle.words.specs.Refusal.{TIME}
 use Rattle.words.specs.Time.{timeWord, timeIs, noTime, timeRead}
-use Rattle.words.specs.declared.time.Time.{Time}
 use Rattle.words.specs.Linear.{word-linear}
 use Rattle.words.specs.Laws.Sums.{differing-weight, differing-comm, triangle}
 use Rattle.words.specs.Laws.Xor.{xor-equal}

@@ -1,18 +1,20 @@
 -- THEOREMS: numbers and bits, there and back, for every width.
 -- Assumes nothing.
-use mathlib.Core.Path.{_≡_, refl, sym, ap, ap₂, _∙_}
-use mathlib.Core.Bool.{Bool, true, false, _&&_}
+use mathlib.Core.Path.{_≡_, refl, ap, ap₂, _∙_}
+use mathlib.Core.Bool.{Bool, true, false, and-eq-true-iff}
 use mathlib.Core.List.{List, [], _∷_}
-use Prim.Native.Nat.{ℕ, zero, suc, _-_, _^_, _≤_, _<_}
+use mathlib.Core.Logic.{_⊎_}
+use Prim.Native.Nat.{ℕ, zero, suc, _+_, _-_, _^_, _≤_, _<_}
 use native.Mathlib.Nat.{mod-eq-of-lt}
 use native.Mathlib.Omega.{arith}
-use lib.Dec.{leb, ltb}
 use lib.IntN.{ℤ}
-use lib.ListN.{length}
-use lib.Signed.{mag}
-use borrow.Author.Tests.{lt-ltb, le-leb, ltb-true, leb-true}
-use Rattle.words.specs.Bits.{IsBits, valueOf, bitsOf, signedOf, unsignedOf, holds}
+use lib.Dec.{ltb}
+use lib.ListN.{length, getD}
+use lib.Seq.{length-sets}
+use borrow.Author.Tests.{leb-true, ltb-true}
+use Rattle.words.specs.Bits.{IsBits, valueOf, bitsOf, signedOf, unsignedOf, holdsSigned, partAt, within, fitsNumber, fitsSigned, putBytes, numberBytes, signedBytes}
 use Rattle.words.specs.Laws.Digits.{first-bit, other-bits, value-lt, value-bits, bits-cons}
+use Rattle.words.specs.Laws.Puts.{put-back, sets-other}
 use Rattle.words.specs.Laws.Signs.{unsigned-signed, signed-mag, signed-bits, holds-means, holds-when}
 
 -- The w bits of a number below 2 ^ w stand for it.
@@ -28,7 +30,7 @@ bits-back (b ∷ l) h =
     ∙ ap₂ (λ (x : ℕ) (r : List ℕ). x ∷ r) (omega (arith, first-bit h)) (bits-back l (other-bits h))
 
 -- The w bits of a number with a sign that w bits hold stand for it.
-pub signed-back : (w : ℕ) (z : ℤ) → holds w z ≡ true → signedOf (bitsOf w (unsignedOf w z)) ≡ z
+pub signed-back : (w : ℕ) (z : ℤ) → holdsSigned w z ≡ true → signedOf (bitsOf w (unsignedOf w z)) ≡ z
 signed-back zero z h = absurd (omega (arith, holds-means 0 z h .0))
 signed-back (suc k) z h =
     let less : suc k - 1 ≡ k = omega arith in
@@ -39,8 +41,35 @@ pub signed-bits-back : (l : List ℕ) → IsBits l → bitsOf (length l) (unsign
 signed-bits-back l h = ap (bitsOf (length l)) (unsigned-signed l) ∙ bits-back l h
 
 -- What 1 to 64 bits stand for with a sign, they hold.
-pub signed-held : (l : List ℕ) → 0 < length l → length l ≤ 64 → holds (length l) (signedOf l) ≡ true
+pub signed-held : (l : List ℕ) → 0 < length l → length l ≤ 64 → holdsSigned (length l) (signedOf l) ≡ true
 signed-held [] p h = absurd (omega arith)
 signed-held (b ∷ l) p h =
     let less : suc (length l) - 1 ≡ length l = omega arith in
     holds-when (suc (length l)) (signedOf (b ∷ l)) p h (rw less (signed-mag b l))
+
+-- A number that was put is taken back.
+pub put-number-back : (l : List ℕ) (at w n : ℕ) → w ≤ 64 → fitsNumber l at w n ≡ true
+    → valueOf (partAt (numberBytes l at w n) at w) ≡ n
+put-number-back l at w n h fits =
+    let both = and-eq-true-iff (within l at w) (ltb n (2 ^ w)) .0 fits in
+    ap valueOf (put-back (fitsNumber l at w n) l at w n h fits (leb-true (at + w) (length l) (both .0)))
+    ∙ number-back w n (ltb-true n (2 ^ w) (both .1))
+
+-- A number with a sign that was put is taken back.
+pub put-signed-back : (l : List ℕ) (at w : ℕ) (z : ℤ) → fitsSigned l at w z ≡ true
+    → signedOf (partAt (signedBytes l at w z) at w) ≡ z
+put-signed-back l at w z fits =
+    let both = and-eq-true-iff (within l at w) (holdsSigned w z) .0 fits in
+    ap signedOf
+    (put-back (fitsSigned l at w z) l at w (unsignedOf w z) (holds-means w z (both .1) .1) fits (leb-true (at + w) (length l) (both .0)))
+    ∙ signed-back w z (both .1)
+
+-- Putting leaves every byte outside its place as it was, and their number.
+pub others-stay : (fits : Bool) (l : List ℕ) (at : ℕ) (bits : List ℕ) (k : ℕ) → (k < at) ⊎ (at + length bits ≤ k)
+    → getD (putBytes fits l at bits) k 0 ≡ getD l k 0
+others-stay true l at bits k h = sets-other l at bits k h
+others-stay false l at bits k h = refl
+
+pub length-stays : (fits : Bool) (l : List ℕ) (at : ℕ) (bits : List ℕ) → length (putBytes fits l at bits) ≡ length l
+length-stays true l at bits = length-sets l at bits
+length-stays false l at bits = refl

@@ -1,9 +1,9 @@
 -- The time word (document 01, "Time word"; IS-GPS-800, 3.2.3.2 and Figure 3.2-4).
 -- Assumes nothing.
-use mathlib.Core.Bool.{Bool, cond, _&&_}
+use mathlib.Core.Bool.{cond, _&&_}
 use mathlib.Core.List.{List, [], _∷_, _++_, map}
 use Prim.Native.Nat.{ℕ, zero, suc, _+_, _-_, _/_, _%_, _^_}
-use lib.Dec.{leb, ltb, eqb}
+use lib.Dec.{leb, eqb}
 use lib.ListN.{length, getD, drop}
 use Rattle.words.specs.Bits.{bitsOf, firstNotBit}
 use Rattle.words.specs.Sums.{add2, differing}

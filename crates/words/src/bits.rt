@@ -7,7 +7,7 @@ ghost use lib.Dec.{leb, ltb};
 ghost use lib.ListN.{length};
 ghost use lib.Seq.{sets};
 ghost use lib.Signed.{mag};
-ghost use Rattle.words.specs.Bits.{firstNotBit, valueOf, bitsOf, signedOf, unsignedOf, partAt, holds, fitsNumber, fitsSigned, putAnswer, putBytes};
+ghost use Rattle.words.specs.Bits.{firstNotBit, valueOf, bitsOf, signedOf, unsignedOf, partAt, holdsSigned, numberAnswer, numberBytes, signedAnswer, signedBytes};
 use super::refusal::Answer;
 use super::refusal::LENGTH;
 use super::refusal::refuse;
@@ -140,7 +140,7 @@ fn has_bits(number: u64, width: usize) -> bool
 
 // `width` bits hold the number with a sign.
 fn has_signed_bits(z: i64, width: usize) -> bool
-    ensures { λ r. ⌜ r ≡ holds width z ⌝ }
+    ensures { λ r. ⌜ r ≡ holdsSigned width z ⌝ }
 {
     if width < 1 {
         return false;
@@ -164,7 +164,7 @@ fn is_within(count: usize, at: usize, width: usize) -> bool
 
 // The number whose bits stand for `z` with a sign.
 fn unsigned_of(z: i64, width: usize) -> u64
-    requires { ⌜ holds width z ≡ true ⌝ }
+    requires { ⌜ holdsSigned width z ≡ true ⌝ }
     ensures { λ r. ⌜ r ≡ unsignedOf width z ⌝ }
 {
     if z < 0 {
@@ -201,7 +201,7 @@ fn fits_number(count: usize, at: usize, width: usize, number: u64) -> bool
 
 // The same with a sign.
 fn fits_signed(count: usize, at: usize, width: usize, z: i64) -> bool
-    ensures { λ r. ⌜ r ≡ (leb (at + width) count && holds width z) ⌝ }
+    ensures { λ r. ⌜ r ≡ (leb (at + width) count && holdsSigned width z) ⌝ }
 {
     if is_within(count, at, width) {
         has_signed_bits(z, width)
@@ -212,8 +212,7 @@ fn fits_signed(count: usize, at: usize, width: usize, z: i64) -> bool
 
 // The `width` bits of the number from `at` on; refused 1 at 0 where they are not within the bytes or do not hold it.
 pub fn put_number(bytes: &mut [u8], at: usize, width: usize, number: u64) -> Answer
-    ensures { λ r. ⌜ (r ≡ putAnswer (fitsNumber (now (bytes .entry)) at width number))
-        × (now (bytes .exit) ≡ putBytes (fitsNumber (now (bytes .entry)) at width number) (now (bytes .entry)) at (bitsOf width number)) ⌝ }
+    ensures { λ r. ⌜ (r ≡ numberAnswer (now (bytes .entry)) at width number) × (now (bytes .exit) ≡ numberBytes (now (bytes .entry)) at width number) ⌝ }
 {
     if fits_number(bytes.len(), at, width, number) {
         put_bits(bytes, at, width, number);
@@ -224,8 +223,7 @@ pub fn put_number(bytes: &mut [u8], at: usize, width: usize, number: u64) -> Ans
 
 // The same with a sign.
 pub fn put_signed(bytes: &mut [u8], at: usize, width: usize, number: i64) -> Answer
-    ensures { λ r. ⌜ (r ≡ putAnswer (fitsSigned (now (bytes .entry)) at width number))
-        × (now (bytes .exit) ≡ putBytes (fitsSigned (now (bytes .entry)) at width number) (now (bytes .entry)) at (bitsOf width (unsignedOf width number))) ⌝ }
+    ensures { λ r. ⌜ (r ≡ signedAnswer (now (bytes .entry)) at width number) × (now (bytes .exit) ≡ signedBytes (now (bytes .entry)) at width number) ⌝ }
 {
     if fits_signed(bytes.len(), at, width, number) {
         put_bits(bytes, at, width, unsigned_of(number, width));

@@ -1,6 +1,6 @@
 // The time word.
 ghost use mathlib.Core.Path.{_≡_};
-ghost use Prim.Native.Nat.{_-_, _^_, _≤_, _<_};
+ghost use Prim.Native.Nat.{_-_, _^_, _<_};
 ghost use lib.Bits.{bitXor};
 ghost use lib.ListN.{length};
 ghost use Rattle.words.specs.Bits.{valueOf, bitsOf};

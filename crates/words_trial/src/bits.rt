@@ -45,7 +45,7 @@ fn put_and_back(text: &[u8], at: usize, width: usize, z: i64) {
     signed(b"  and it is read back", &row, at, width, z);
 }
 
-pub fn finding() {
+pub(crate) fn finding() {
     let bits = [0u8, 1, 1, 0];
     let odd = [0u8, 1, 255, 2];
     let garbage = [255u8; 600];
@@ -70,7 +70,7 @@ pub fn finding() {
     );
 }
 
-pub fn taking() {
+pub(crate) fn taking() {
     let ones = [1u8; 100];
     let garbage = [254u8; 100];
     let four = [1u8, 0, 0, 1];
@@ -110,7 +110,7 @@ pub fn taking() {
     number(b"take_number of bytes 254 is 0", &garbage, 3, 50, 0);
 }
 
-pub fn taking_signed() {
+pub(crate) fn taking_signed() {
     let ones = [1u8; 100];
     let mut least = [0u8; 100];
     least[0] = 1;
@@ -156,7 +156,7 @@ pub fn taking_signed() {
     );
 }
 
-pub fn putting() {
+pub(crate) fn putting() {
     let mut row = [7u8; 6];
     put_refused(b"put_number past the end is refused 1 at 0", 7, 4, 3, 0);
     put_refused(
@@ -194,7 +194,7 @@ pub fn putting() {
     );
 }
 
-pub fn putting_wide() {
+pub(crate) fn putting_wide() {
     let mut wide = [1u8; 80];
     done(
         b"put_number of the largest in 70 bits is done",
@@ -204,7 +204,7 @@ pub fn putting_wide() {
     number(b"  with zeros before it", &wide, 5, 6, 0);
 }
 
-pub fn putting_signed() {
+pub(crate) fn putting_signed() {
     put_signed_refused(b"put_signed of no width is refused 1 at 0", 9, 0, 0, 0);
     put_signed_refused(b"put_signed of width 65 is refused 1 at 0", 9, 0, 65, 0);
     put_signed_refused(

@@ -11,7 +11,7 @@ fn check(text: &[u8], bits: &[u8], n: u32) {
     expected(text, check_bits(bits) == n);
 }
 
-pub fn known() {
+pub(crate) fn known() {
     let mut bits = [0u8; 576];
     check(b"check_bits of 576 zeros is 000000", &bits, 0);
     bits[575] = 1;
@@ -21,7 +21,7 @@ pub fn known() {
     check(b"check_bits with bit 575 set is 8AD50D", &bits, 0x8AD50D);
 }
 
-pub fn extreme() {
+pub(crate) fn extreme() {
     let even = [254u8; 1000];
     let one = [255u8; 1];
     check(b"check_bits of nothing is 0", &even[0..0], 0);
@@ -37,7 +37,7 @@ pub fn extreme() {
     expected(b"a one is not right", !is_right(&one));
 }
 
-pub fn refusing() {
+pub(crate) fn refusing() {
     let before = [5u8; 23];
     let mut short = [5u8; 23];
     refused(
@@ -55,7 +55,7 @@ pub fn refusing() {
     expected(b"  and the bytes stay", check::same(&short, &before));
 }
 
-pub fn putting() {
+pub(crate) fn putting() {
     let mut block = [1u8; 600];
     expected(b"600 ones are not right", !is_right(&block));
     done(b"put_check into them is done", put_check(&mut block));

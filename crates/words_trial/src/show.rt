@@ -1,7 +1,7 @@
 // Printing what is expected, and whether an answer is so.
 use words::refusal::Answer;
 
-pub fn expected(text: &[u8], so: bool) {
+pub(crate) fn expected(text: &[u8], so: bool) {
     if so {
         io::write_all(1, b"ok     ");
     } else {
@@ -11,24 +11,24 @@ pub fn expected(text: &[u8], so: bool) {
     io::write_all(1, b"\n");
 }
 
-pub fn is_done(answer: Answer) -> bool {
+pub(crate) fn is_done(answer: Answer) -> bool {
     match answer {
         Answer::Done => true,
         Answer::Refused(_) => false,
     }
 }
 
-pub fn is_refused(answer: Answer, number: u8, place: usize) -> bool {
+pub(crate) fn is_refused(answer: Answer, number: u8, place: usize) -> bool {
     match answer {
         Answer::Done => false,
         Answer::Refused(r) => r.number == number && r.place == place,
     }
 }
 
-pub fn done(text: &[u8], answer: Answer) {
+pub(crate) fn done(text: &[u8], answer: Answer) {
     expected(text, is_done(answer));
 }
 
-pub fn refused(text: &[u8], answer: Answer, number: u8, place: usize) {
+pub(crate) fn refused(text: &[u8], answer: Answer, number: u8, place: usize) {
     expected(text, is_refused(answer, number, place));
 }

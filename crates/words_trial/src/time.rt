@@ -39,7 +39,7 @@ fn word(text: &[u8], toi: u16, symbols: u64) {
     read(b"  and it is read back with 0", read_time(&out), toi, 0);
 }
 
-pub fn known() {
+pub(crate) fn known() {
     word(b"write_time of 0 is done: 52 zeros", 0, 0);
     word(b"write_time of 256 is done: 52 ones", 256, 0xFFFFFFFFFFFFF);
     word(
@@ -54,7 +54,7 @@ pub fn known() {
     );
 }
 
-pub fn writing() {
+pub(crate) fn writing() {
     let mut out = [3u8; 52];
     let before = [3u8; 52];
     refused(
@@ -72,7 +72,7 @@ pub fn writing() {
     expected(b"  and the bytes stay", check::same(&out, &before));
 }
 
-pub fn writing_elsewhere() {
+pub(crate) fn writing_elsewhere() {
     let mut short = [3u8; 51];
     let mut long = [3u8; 53];
     refused(
@@ -95,7 +95,7 @@ pub fn writing_elsewhere() {
     );
 }
 
-pub fn reading() {
+pub(crate) fn reading() {
     let garbage = [255u8; 60];
     let mut symbols = [0u8; 52];
     not_read(
@@ -132,7 +132,7 @@ pub fn reading() {
 }
 
 // The first nine symbols of 0's word turned are borne; with the tenth no time is near.
-pub fn turned() {
+pub(crate) fn turned() {
     let mut symbols = [0u8; 52];
     done(
         b"put_number of nine ones in front is done",

@@ -54,13 +54,13 @@ value-more l i h =
 
 -- ---- a part that ends with the list
 
-pub take-least : (n : ℕ) (l : List ℕ) → take (min n (length l)) l ≡ take n l
+take-least : (n : ℕ) (l : List ℕ) → take (min n (length l)) l ≡ take n l
 take-least zero l = ap (λ (k : ℕ). take k l) (zero-min (length l))
 take-least (suc n) [] = ap (λ (k : ℕ). take k []) (min-zero (suc n))
 take-least (suc n) (x ∷ l) =
     ap (λ (k : ℕ). take k (x ∷ l)) (suc-min-suc n (length l)) ∙ ap (λ (r : List ℕ). x ∷ r) (take-least n l)
 
-pub drop-least : (n : ℕ) (l : List ℕ) → drop (min n (length l)) l ≡ drop n l
+drop-least : (n : ℕ) (l : List ℕ) → drop (min n (length l)) l ≡ drop n l
 drop-least zero l = ap (λ (k : ℕ). drop k l) (zero-min (length l))
 drop-least (suc n) [] = ap (λ (k : ℕ). drop k []) (min-zero (suc n))
 drop-least (suc n) (x ∷ l) = ap (λ (k : ℕ). drop k (x ∷ l)) (suc-min-suc n (length l)) ∙ drop-least n l

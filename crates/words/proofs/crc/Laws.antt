@@ -2,7 +2,7 @@
 -- Assumes nothing.
 use mathlib.Core.Path.{_≡_, refl, sym, ap, ap₂, _∙_}
 use mathlib.Core.Bool.{Bool, true, cond}
-use mathlib.Core.List.{List, [], _∷_, _++_, append-nil}
+use mathlib.Core.List.{List, _++_, append-nil}
 use Prim.Native.Nat.{ℕ, suc, _+_, _-_, _^_, _≤_, _<_}
 use native.Mathlib.Numerals.{add-one}
 use native.Mathlib.Omega.{arith}
@@ -39,7 +39,7 @@ check-is l = sym (remainder-append 0 l (replicate 24 0))
 
 -- ---- the last 24 places
 
-pub block-is : (l : List ℕ) (n : ℕ) → 24 ≤ length l → n ≡ checkOf (take (length l - 24) l)
+block-is : (l : List ℕ) (n : ℕ) → 24 ≤ length l → n ≡ checkOf (take (length l - 24) l)
     → sets l (length l - 24) (bitsOf 24 n) ≡ blockOf (take (length l - 24) l)
 unfolding blockOf
 block-is l n h e =

@@ -3,7 +3,7 @@
 use mathlib.Core.Path.{_≡_, refl, sym, ap, ap₂, _∙_, subst}
 use mathlib.Core.Bool.{Bool, true, cond, _&&_, and-eq-true-iff}
 use mathlib.Core.List.{List, [], _∷_, _++_, map, append-nil}
-use Prim.Native.Nat.{ℕ, zero, suc, _+_, _-_, _*_, _/_, _%_, _^_, _≤_, _<_}
+use Prim.Native.Nat.{ℕ, suc, _+_, _-_, _*_, _/_, _%_, _^_, _≤_, _<_}
 use native.Mathlib.Nat.{div-one, mod-mod}
 use native.Mathlib.Numerals.{add-one}
 use native.Mathlib.Omega.{arith}
@@ -28,7 +28,7 @@ use Rattle.words.specs.Laws.Words.{word-length, word-are}
 -- ---- the register as a number
 
 -- the next symbol, from the register's digits
-abbrev pub nextOf : ℕ → ℕ
+abbrev nextOf : ℕ → ℕ
 nextOf r = (r + r / 8 + r / 16 + r / 32 + r / 64 + r / 128) % 2
 
 next-is : (r : ℕ) → nextOf r ≡ nextSymbol (bitsOf 8 r)
@@ -156,19 +156,33 @@ zero-packed = refl
 unfoldable pub turns : List ℕ
 turns = 0x00F3A905B4BE3 ∷ 0x01E7520B697C6 ∷ 0x03CEA416D2F8C ∷ 0x079D482DA5F18 ∷ 0x0FC9395EFF5D3 ∷ 0x1F9272BDFEBA6 ∷ 0x3FD74C7E49CAF ∷ 0x7FAE98FC9395E ∷ 0x805167036C6A1 ∷ []
 
+-- its entry k is the word of 2 ^ (k + 1) - 1
 right : ℕ → Bool
-right t = ltb (trailingZeros 16 (suc t)) 9 && eqb (getD turns (trailingZeros 16 (suc t)) 0) (valueOf (timeWord (bitXor t (suc t))))
+right k = eqb (getD turns k 0) (valueOf (timeWord (2 ^ suc k - 1)))
 
-all-right : all right 511 ≡ true
-unfolding all right turns trailingZeros valueOf timeWord shiftedOut bitsOf
+all-right : all right 9 ≡ true
+unfolding all right turns valueOf timeWord shiftedOut bitsOf
 all-right = refl
 
-right-at : (t : ℕ) → t < 511 → (trailingZeros 16 (suc t) < 9) × (getD turns (trailingZeros 16 (suc t)) 0 ≡ valueOf (timeWord (bitXor t (suc t))))
-unfolding right
+-- a time and the one before it differ in the lowest bit that is set and those below it
+lowest : ℕ → Bool
+lowest t = ltb (trailingZeros 16 (suc t)) 9 && eqb (bitXor t (suc t)) (2 ^ suc (trailingZeros 16 (suc t)) - 1)
+
+all-lowest : all lowest 511 ≡ true
+unfolding all lowest trailingZeros
+all-lowest = refl
+
+right-at : (t : ℕ) → t < 511
+    → (trailingZeros 16 (suc t) < 9) × (getD turns (trailingZeros 16 (suc t)) 0 ≡ valueOf (timeWord (bitXor t (suc t))))
+unfolding right lowest
 right-at t h =
     let k = trailingZeros 16 (suc t) in
-    let both = and-eq-true-iff (ltb k 9) (eqb (getD turns k 0) (valueOf (timeWord (bitXor t (suc t))))) .0 (all-at right 511 all-right t h) in
-    (ltb-true k 9 (both .0), eqb-true (getD turns k 0) (valueOf (timeWord (bitXor t (suc t)))) (both .1))
+    let both = and-eq-true-iff (ltb k 9) (eqb (bitXor t (suc t)) (2 ^ suc k - 1)) .0 (all-at lowest 511 all-lowest t h) in
+    let within : k < 9 = ltb-true k 9 (both .0) in (
+      within,
+      eqb-true (getD turns k 0) (valueOf (timeWord (2 ^ suc k - 1))) (all-at right 9 all-right k within)
+          ∙ ap (λ (n : ℕ). valueOf (timeWord n)) (sym (eqb-true (bitXor t (suc t)) (2 ^ suc k - 1) (both .1))),
+    )
 
 -- as the code has it
 pub turn-at : (t : ℕ) → 0 < t → t < 512

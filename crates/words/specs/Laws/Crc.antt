@@ -1,9 +1,9 @@
 -- The register of the check bits: it is linear, stays below 2 ^ 24, and bits in a register that is not full stay what they are.
 -- Assumes nothing.
-use mathlib.Core.Path.{_≡_, refl, sym, ap, ap₂, _∙_, subst}
+use mathlib.Core.Path.{_≡_, refl, sym, ap, ap₂, _∙_}
 use mathlib.Core.List.{List, [], _∷_, _++_}
 use Prim.Native.Nat.{ℕ, zero, suc, _+_, _*_, _/_, _%_, _^_, _≤_, _<_}
-use native.Mathlib.Nat.{suc-inj, pow-suc, lt-of-lt-of-le, add-mul, mul-assoc, mul-comm, add-assoc, mod-eq-of-lt}
+use native.Mathlib.Nat.{suc-inj, pow-suc, lt-of-lt-of-le, add-mul, mul-assoc, mul-comm, add-assoc}
 use native.Mathlib.Omega.{arith}
 use lib.Bits.{bitXor, xor-shr, xor-zero-r}
 use lib.Dec.{lit<, lit≤}
@@ -12,7 +12,7 @@ use lib.Pow.{pow-mono, mod-pow-add}
 use Rattle.words.specs.Bits.{bitsOf}
 use Rattle.words.specs.Sums.{add2, sums}
 use Rattle.words.specs.Crc.{poly, reduced, fed, remainderFrom, remainderOf, checkOf}
-use Rattle.words.specs.Laws.Digits.{length-bits, bits-are}
+use Rattle.words.specs.Laws.Digits.{bits-are}
 use Rattle.words.specs.Laws.Sums.{sums-zeros}
 use Rattle.words.specs.Laws.Xor.{xor-low, xor-bit, xor-swap}
 
@@ -106,7 +106,7 @@ fed-high r b l h = ap (λ (x : ℕ). bitXor (r * 2 + b % 2) (x * poly)) (top (r 
 
 -- ---- bits read into a register that is not full stay what they are
 
-pub bits-in : (k r n : ℕ) → r < 2 ^ k → (m : ℕ) → k + m ≤ 24 → remainderFrom r (bitsOf m n) ≡ r * 2 ^ m + n % 2 ^ m
+bits-in : (k r n : ℕ) → r < 2 ^ k → (m : ℕ) → k + m ≤ 24 → remainderFrom r (bitsOf m n) ≡ r * 2 ^ m + n % 2 ^ m
 unfolding bitsOf
 bits-in k r n h zero g = omega arith
 bits-in k r n h (suc m) g =

@@ -1,18 +1,17 @@
 -- Numbers and their bits: what `valueOf` and `bitsOf` are to each other.
 -- Assumes nothing.
-use mathlib.Core.Path.{_≡_, refl, sym, ap, ap₂, _∙_, subst}
+use mathlib.Core.Path.{_≡_, refl, sym, ap, ap₂, _∙_}
 use mathlib.Core.Bool.{Bool, true, false, cond}
 use mathlib.Core.List.{List, [], _∷_, _++_}
-use Prim.Native.Nat.{ℕ, zero, suc, _+_, _*_, _-_, _/_, _%_, _^_, _≤_, _<_}
-use native.Mathlib.Nat.{pow-suc, mul-assoc, mul-comm, mul-one, mul-le-mul-right, div-one, suc-inj, mod-eq-of-lt, mod-mod, mod-one, mod-lt}
+use Prim.Native.Nat.{ℕ, zero, suc, _+_, _*_, _/_, _%_, _^_, _≤_, _<_}
+use native.Mathlib.Nat.{pow-suc, mul-assoc, mul-one, mul-le-mul-right, div-one, suc-inj, mod-mod, mod-one, mod-lt}
 use native.Mathlib.Numerals.{add-one}
 use native.Mathlib.Omega.{arith}
 use lib.Arith.{lt-one}
 use lib.Bits.{block-half, block-odd}
 use lib.Dec.{ltb}
-use lib.ListN.{length, take, drop, getD, length-append}
+use lib.ListN.{length, drop, getD, length-append}
 use lib.Pow.{mod-pow-add, shr-shr, pow-pos, split}
-use lib.Seq.{take-suc}
 use borrow.Author.Tests.{ltb-true, lt-ltb}
 use Rattle.words.specs.Bits.{IsBits, firstNotBit, valueOf, bitsOf}
 
@@ -116,12 +115,3 @@ unfolding firstNotBit
 bits-none [] h = refl
 bits-none (b ∷ l) h =
     ap (λ (t : Bool). cond t (suc (firstNotBit l)) 0) (lt-ltb b 2 (first-bit h)) ∙ ap suc (bits-none l (other-bits h))
-
-pub not-bit-le : (l : List ℕ) → firstNotBit l ≤ length l
-unfolding firstNotBit
-not-bit-le [] = omega arith
-not-bit-le (b ∷ l) = go (ltb b 2) (not-bit-le l)
-  where
-    go : (t : Bool) → firstNotBit l ≤ length l → cond t (suc (firstNotBit l)) 0 ≤ suc (length l)
-    go true h = omega arith
-    go false h = omega arith

@@ -1,18 +1,18 @@
 -- The search for the time within nine.
 -- Assumes nothing.
-use mathlib.Core.Path.{_≡_, refl, sym, ap, ap₂, _∙_, subst}
+use mathlib.Core.Path.{_≡_, refl, sym, ap, _∙_, subst}
 use mathlib.Core.Bool.{Bool, true, false, cond}
 use mathlib.Core.List.{List}
 use mathlib.Core.Logic.{⊎-elim}
 use Prim.Native.Nat.{ℕ, zero, suc, _+_, _≤_, _<_}
 use native.Mathlib.Nat.{eq-or-lt-of-le}
 use native.Mathlib.Omega.{arith}
-use lib.Dec.{leb, eqb}
+use lib.Dec.{leb}
 use lib.ListN.{length}
 use borrow.Author.Tests.{leb-true, leb-false, eq-eqb, lt-leb}
 use Rattle.words.specs.Bits.{IsBits, firstNotBit}
 use Rattle.words.specs.Sums.{differing}
-use Rattle.words.specs.Refusal.{LENGTH, NOT-A-BIT, TIME, numberOf}
+use Rattle.words.specs.Refusal.{TIME, numberOf}
 use Rattle.words.specs.Time.{timeWord, timeIs, noTime, nearest, timeRead}
 use Rattle.words.specs.declared.time.Time.{Time}
 use Rattle.words.specs.Laws.Digits.{bits-none}

@@ -1,7 +1,7 @@
 -- What a right block's ones cannot be: an odd number, two in up to 600 places, or all within 24 neighbouring places.
 -- Assumes nothing.
 use mathlib.Core.Path.{_≡_, refl, sym, ap, ap₂, _∙_, subst}
-use mathlib.Core.Bool.{Bool, true, false, not, _&&_, and-eq-true-iff}
+use mathlib.Core.Bool.{Bool, true, not, _&&_, and-eq-true-iff}
 use mathlib.Core.List.{List, [], _∷_}
 use Prim.Native.Nat.{ℕ, zero, suc, _+_, _*_, _/_, _%_, _^_, _≤_, _<_, zero-le}
 use native.Mathlib.Nat.{add-zero, add-suc, suc-add, zero-add, pow-suc, lt-of-lt-of-le}
@@ -15,7 +15,7 @@ use lib.Pow.{pow-mono}
 use borrow.Author.Tests.{eqb-false, not-true}
 use Rattle.words.specs.Bits.{IsBits}
 use Rattle.words.specs.Sums.{weight}
-use Rattle.words.specs.Crc.{poly, reduced, fed, remainderFrom, remainderOf, Right}
+use Rattle.words.specs.Crc.{poly, reduced, fed, remainderFrom, Right}
 use Rattle.words.specs.Laws.Digits.{first-bit, other-bits}
 use Rattle.words.specs.Laws.Xor.{xor-half, xor-odd}
 use Rattle.words.specs.Laws.Crc.{fed-low}

@@ -1,8 +1,8 @@
 -- Bits that stand for a number with a sign.
 -- Assumes nothing.
-use mathlib.Core.Path.{_≡_, refl, sym, ap, ap₂, _∙_, subst}
+use mathlib.Core.Path.{_≡_, refl, ap, _∙_}
 use mathlib.Core.Bool.{Bool, true, false, _&&_, and-eq-true-iff}
-use mathlib.Core.List.{List, [], _∷_}
+use mathlib.Core.List.{List, _∷_}
 use Prim.Native.Nat.{ℕ, zero, suc, _+_, _*_, _-_, _/_, _%_, _^_, _≤_, _<_}
 use native.Mathlib.Nat.{pow-suc, not-suc-le-zero, div-eq-of-lt, one-mul, mod-eq-of-lt}
 use native.Mathlib.Omega.{arith}
@@ -12,11 +12,11 @@ use lib.ListN.{length, getD}
 use lib.Pow.{high}
 use lib.Signed.{mag}
 use borrow.Author.Tests.{lt-ltb, le-leb, eq-eqb, ne-eqb, eqb-true, eqb-false, ltb-true, leb-true}
-use Rattle.words.specs.Bits.{IsBits, valueOf, bitsOf, signedOf, unsignedOf, holds}
+use Rattle.words.specs.Bits.{valueOf, bitsOf, signedOf, unsignedOf, holdsSigned}
 use Rattle.words.specs.Laws.Digits.{value-lt, length-bits, value-bits}
 
 -- a less b, where a is the smaller
-pub less : (a b : ℕ) → a < b → pos a -ℤ pos b ≡ negsuc (b - suc a)
+less : (a b : ℕ) → a < b → pos a -ℤ pos b ≡ negsuc (b - suc a)
 less a zero h = absurd (not-suc-le-zero h)
 less a (suc b) h = rw (lt-ltb a (suc b) h) refl
 
@@ -64,11 +64,11 @@ signed-bits k (negsuc m) h =
     ∙ rw (length-bits (suc k) n, value-bits (suc k) n, mod-eq-of-lt small) (ap negsuc (omega (arith, pow-suc 2 k)))
 
 -- the test that w bits hold a number with a sign, and what it says
-pub holds-means : (w : ℕ) (z : ℤ) → holds w z ≡ true → (1 ≤ w) × (w ≤ 64) × (mag z < 2 ^ (w - 1))
+pub holds-means : (w : ℕ) (z : ℤ) → holdsSigned w z ≡ true → (1 ≤ w) × (w ≤ 64) × (mag z < 2 ^ (w - 1))
 holds-means w z h =
     let first = and-eq-true-iff (leb 1 w) (leb w 64 && ltb (mag z) (2 ^ (w - 1))) .0 h in
     let second = and-eq-true-iff (leb w 64) (ltb (mag z) (2 ^ (w - 1))) .0 (first .1) in
     (leb-true 1 w (first .0), leb-true w 64 (second .0), ltb-true (mag z) (2 ^ (w - 1)) (second .1))
 
-pub holds-when : (w : ℕ) (z : ℤ) → 1 ≤ w → w ≤ 64 → mag z < 2 ^ (w - 1) → holds w z ≡ true
+pub holds-when : (w : ℕ) (z : ℤ) → 1 ≤ w → w ≤ 64 → mag z < 2 ^ (w - 1) → holdsSigned w z ≡ true
 holds-when w z p h m = rw (le-leb 1 w p, le-leb w 64 h, lt-ltb (mag z) (2 ^ (w - 1)) m) refl

@@ -7,7 +7,7 @@ use Prim.Native.Nat.{ℕ, zero, suc, _+_, _%_, _≤_, _<_, zero-le}
 use native.Mathlib.Nat.{suc-inj}
 use native.Mathlib.Omega.{arith}
 use lib.Dec.{eqb}
-use lib.ListN.{length, getD, replicate, drop, length-append}
+use lib.ListN.{length, getD, replicate}
 use borrow.Author.Tests.{eqb-true, eqb-false, eq-eqb, ne-eqb}
 use Rattle.words.specs.Bits.{IsBits}
 use Rattle.words.specs.Sums.{add2, sums, unlike, differing, weight}
@@ -39,10 +39,10 @@ unlike-bits (suc zero) (suc zero) hx hy = refl
 unlike-bits (suc zero) (suc (suc y)) hx hy = absurd (omega arith)
 unlike-bits (suc (suc x)) y hx hy = absurd (omega arith)
 
-pub unlike-eq : (x y : ℕ) → x ≡ y → unlike x y ≡ 0
+unlike-eq : (x y : ℕ) → x ≡ y → unlike x y ≡ 0
 unlike-eq x y e = ap (λ (t : Bool). cond t 0 1) (eq-eqb x y e)
 
-pub unlike-ne : (x y : ℕ) → (x ≡ y → ⊥) → unlike x y ≡ 1
+unlike-ne : (x y : ℕ) → (x ≡ y → ⊥) → unlike x y ≡ 1
 unlike-ne x y e = ap (λ (t : Bool). cond t 0 1) (ne-eqb x y e)
 
 unlike-comm : (x y : ℕ) → unlike x y ≡ unlike y x
@@ -118,7 +118,7 @@ triangle (x ∷ a) [] c e f = absurd (omega arith)
 triangle (x ∷ a) (y ∷ b) [] e f = absurd (omega arith)
 triangle (x ∷ a) (y ∷ b) (z ∷ c) e f = omega (arith, unlike-triangle x y z, triangle a b c (suc-inj e) (suc-inj f))
 
--- lists that differ in no place are equal, and equal ones differ in none
+-- lists that differ in no place are equal
 pub differing-none : (a b : List ℕ) → differing a b ≡ 0 → a ≡ b
 differing-none [] [] e = refl
 differing-none [] (y ∷ b) e = absurd (omega arith)
@@ -129,7 +129,3 @@ differing-none (x ∷ a) (y ∷ b) e =
     go : (t : Bool) → eqb x y ≡ t → _≡_ {A = ℕ} (cond t 0 1) 0 → x ≡ y
     go true e f = eqb-true x y e
     go false e f = absurd (omega arith)
-
-pub differing-same : (a : List ℕ) → differing a a ≡ 0
-differing-same [] = refl
-differing-same (x ∷ a) = omega (arith, unlike-eq x x refl, differing-same a)

@@ -28,7 +28,7 @@ same-test true t f g = sym (f refl)
 same-test false true f g = g refl
 same-test false false f g = refl
 
--- a test of two parts goes on with the second where the first holds, and ends where it does not
+-- a test of two parts goes on with the second where the first holdsSigned, and ends where it does not
 pub and-goes-on : (s t r : Bool) → s ≡ true → r ≡ t → r ≡ (s && t)
 and-goes-on s t r e f = f ∙ ap (λ (x : Bool). x && t) (sym e)
 

@@ -1,18 +1,17 @@
 -- The time word: its length, that it is of bits and linear, and how many ones it has.
 -- Assumes nothing.
-use mathlib.Core.Path.{_≡_, refl, sym, ap, ap₂, _∙_, subst}
+use mathlib.Core.Path.{_≡_, refl, sym, ap, ap₂, _∙_}
 use mathlib.Core.Bool.{Bool, true}
 use mathlib.Core.List.{List, [], _∷_, _++_, map}
-use Prim.Native.Nat.{ℕ, zero, suc, _+_, _-_, _/_, _%_, _^_, _≤_, _<_}
-use native.Mathlib.Nat.{suc-inj}
+use Prim.Native.Nat.{ℕ, zero, suc, _+_, _-_, _%_, _≤_, _<_}
 use native.Mathlib.Omega.{arith}
 use lib.Dec.{leb}
-use lib.ListN.{length, getD, drop, length-map, length-append, length-drop}
+use lib.ListN.{length, drop, length-map, length-append, length-drop}
 use borrow.Author.Tests.{leb-true}
 use Rattle.words.specs.Bits.{IsBits, bitsOf}
 use Rattle.words.specs.Sums.{add2, sums, weight}
 use Rattle.words.specs.Time.{back, nextSymbol, shifted, shiftedOut, topBit, timeWord}
-use Rattle.words.specs.Laws.Digits.{no-bits, more-bits, length-bits}
+use Rattle.words.specs.Laws.Digits.{no-bits, more-bits}
 use Rattle.words.specs.Laws.Tests.{all, all-at}
 use Rattle.words.specs.Laws.Sums.{add2-swap, sums-at, sums-append}
 

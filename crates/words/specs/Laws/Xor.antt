@@ -3,11 +3,11 @@
 use mathlib.Core.Path.{_≡_, refl, sym, ap, ap₂, _∙_}
 use mathlib.Core.List.{List, [], _∷_}
 use Prim.Native.Nat.{ℕ, zero, suc, _+_, _*_, _/_, _%_, _^_, _<_}
-use native.Mathlib.Nat.{suc-inj, pow-suc}
+use native.Mathlib.Nat.{suc-inj}
 use native.Mathlib.Omega.{arith}
-use lib.Arith.{bin-ind, lt-one}
+use lib.Arith.{bin-ind}
 use lib.Bits.{bitXor, differ, xor-step, xor-shr, xor-comm, xor-zero-r, xor-self, xor-block}
-use lib.Count.{ones, onesIn, ones-step, ones-cat}
+use lib.Count.{ones, ones-cat}
 use lib.ListN.{length}
 use Rattle.words.specs.Bits.{IsBits, valueOf, bitsOf}
 use Rattle.words.specs.Sums.{add2, sums, weight}

@@ -1,7 +1,7 @@
 -- `words::bits::first_not_bit` meets its contract. The invariant: the first byte that is no bit is the first one of what is left.
 -- Assumes nothing.
 use mathlib.Core.Path.{_≡_, sym, _∙_}
-use Prim.Native.Nat.{ℕ, _+_, _-_, _≤_}
+use Prim.Native.Nat.{_+_, _-_, _≤_}
 use native.Mathlib.Omega.{arith}
 use lib.ListN.{length, drop}
 use Rattle.words.specs.Bits.{firstNotBit}

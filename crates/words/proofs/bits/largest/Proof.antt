@@ -1,6 +1,6 @@
 -- `words::bits::largest` meets its contract: one, shifted left by at most 63, loses nothing. Assumes nothing.
 use mathlib.Core.Path.{_≡_, sym, ap, _∙_}
-use Prim.Native.Nat.{ℕ, suc, _-_, _*_, _%_, _^_, _≤_}
+use Prim.Native.Nat.{ℕ, suc, _-_, _*_, _%_, _^_}
 use native.Mathlib.Nat.{pow-suc, one-mul}
 use native.Mathlib.Omega.{arith}
 use lib.Pow.{pow-pos, pow-mono, shl-exact}

@@ -1,6 +1,6 @@
 -- `words::bits::signed_of` meets its contract. Assumes nothing.
 use mathlib.Core.Path.{_≡_, sym, ap, _∙_}
-use Prim.Native.Nat.{ℕ, suc, _-_, _%_, _^_}
+use Prim.Native.Nat.{suc, _-_, _%_, _^_}
 use native.Mathlib.Omega.{arith}
 use lib.IntN.{pos, negsuc}
 use lib.ListN.{length, getD}

@@ -1,7 +1,7 @@
 -- `words::time::nearest_to` meets its contract. The invariant: the word is that of the time, and the search from here is the whole search.
 -- Assumes nothing.
 use mathlib.Core.Path.{_≡_, refl, sym, ap, ap₂, _∙_}
-use Prim.Native.Nat.{ℕ, _+_, _-_, _≤_, _<_}
+use Prim.Native.Nat.{ℕ, _+_, _-_, _≤_}
 use native.Mathlib.Omega.{arith}
 use lib.Bits.{bitXor}
 use Rattle.words.specs.Bits.{valueOf, bitsOf}
