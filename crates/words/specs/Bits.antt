@@ -45,20 +45,20 @@ abbrev pub holdsSigned : ℕ → ℤ → Bool
 holdsSigned w z = leb 1 w && (leb w 64 && ltb (mag z) (2 ^ (w - 1)))
 
 -- what is taken: w bits from the index `at` on, at most 64, as far as they are there
-abbrev pub partAt : List ℕ → ℕ → ℕ → List ℕ
-partAt l at w = take (min w 64) (drop at l)
+abbrev pub bitsAt : List ℕ → ℕ → ℕ → List ℕ
+bitsAt l at w = take (min w 64) (drop at l)
 
 -- w bits from the index `at` on lie within the bytes
-abbrev pub within : List ℕ → ℕ → ℕ → Bool
-within l at w = leb (at + w) (length l)
+abbrev pub isInside : List ℕ → ℕ → ℕ → Bool
+isInside l at w = leb (at + w) (length l)
 
 -- n can be put there: w bits hold it
 abbrev pub fitsNumber : List ℕ → ℕ → ℕ → ℕ → Bool
-fitsNumber l at w n = within l at w && ltb n (2 ^ w)
+fitsNumber l at w n = isInside l at w && ltb n (2 ^ w)
 
 -- z can be put there: w bits hold it with a sign
 abbrev pub fitsSigned : List ℕ → ℕ → ℕ → ℤ → Bool
-fitsSigned l at w z = within l at w && holdsSigned w z
+fitsSigned l at w z = isInside l at w && holdsSigned w z
 
 -- putting bits from the index `at` on is refused 1 at 0 unless they fit
 abbrev pub putAnswer : Bool → Answer

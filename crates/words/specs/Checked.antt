@@ -13,7 +13,7 @@ use Rattle.words.specs.Crc.{remainderFrom, remainderOf, checkOf, blockOf
 use Rattle.words.specs.Laws.Digits.{length-bits, bits-are}
 use Rattle.words.specs.Laws.Sums.{length-sums, sums-are, differing-weight, differing-none}
 use Rattle.words.specs.Laws.Crc.{remainder-from-xor, remainder-append, check-lt, remainder-block}
-use Rattle.words.specs.Laws.Runs.{run}
+use Rattle.words.specs.Laws.Runs.{short-run}
 
 -- Data with their check bits behind them have the remainder zero.
 pub block-right : (d : List ℕ) → Right (blockOf d)
@@ -26,7 +26,7 @@ unfolding blockOf
 right-only d c e b z =
     differing-none c g
     (differing-weight c g same b (bits-are 24 (checkOf d))
-    ∙ run 24 0 0 (sums c g) (lit< tt) (lit≤ tt) (sums-are c g) past zero-sum .1)
+    ∙ short-run 24 0 0 (sums c g) (lit< tt) (lit≤ tt) (sums-are c g) past zero-sum .1)
   where
     g : List ℕ
     g = bitsOf 24 (checkOf d)

@@ -74,10 +74,10 @@ read-exactly s l b toi places = (λ e. found (nearest-found 400 0 s toi places (
 -- Of 52 bits, reading refuses 3 at 0 exactly if there is no such time.
 pub refused-exactly : (s : List ℕ) → length s ≡ 52 → IsBits s
     → (timeRead s ≡ noTime TIME 0) ↔ ((toi places : ℕ) → IsTime s toi places → ⊥)
-refused-exactly s l b = (none, λ far. read-bits s l b ∙ nearest-refused 400 0 s (λ u h. beyond u h far))
+refused-exactly s l b = (no-ones, λ far. read-bits s l b ∙ nearest-refused 400 0 s (λ u h. beyond u h far))
   where
-    none : timeRead s ≡ noTime TIME 0 → (toi places : ℕ) → IsTime s toi places → ⊥
-    none e toi places h =
+    no-ones : timeRead s ≡ noTime TIME 0 → (toi places : ℕ) → IsTime s toi places → ⊥
+    no-ones e toi places h =
         omega (
           arith,
           nearest-none 400 0 s (sym (read-bits s l b) ∙ e) toi (omega arith) (omega (arith, h .used)),

@@ -12,7 +12,7 @@ use lib.Dec.{ltb}
 use lib.ListN.{length, getD}
 use lib.Seq.{length-sets}
 use borrow.Author.Tests.{leb-true, ltb-true}
-use Rattle.words.specs.Bits.{IsBits, valueOf, bitsOf, signedOf, unsignedOf, holdsSigned, partAt, within, fitsNumber, fitsSigned, putBytes, numberBytes, signedBytes}
+use Rattle.words.specs.Bits.{IsBits, valueOf, bitsOf, signedOf, unsignedOf, holdsSigned, bitsAt, isInside, fitsNumber, fitsSigned, putBytes, numberBytes, signedBytes}
 use Rattle.words.specs.Laws.Digits.{first-bit, other-bits, value-lt, value-bits, bits-cons}
 use Rattle.words.specs.Laws.Puts.{put-back, sets-other}
 use Rattle.words.specs.Laws.Signs.{unsigned-signed, signed-mag, signed-bits, holds-means, holds-when}
@@ -49,17 +49,17 @@ signed-held (b ∷ l) p h =
 
 -- A number that was put is taken back.
 pub put-number-back : (l : List ℕ) (at w n : ℕ) → w ≤ 64 → fitsNumber l at w n ≡ true
-    → valueOf (partAt (numberBytes l at w n) at w) ≡ n
+    → valueOf (bitsAt (numberBytes l at w n) at w) ≡ n
 put-number-back l at w n h fits =
-    let both = and-eq-true-iff (within l at w) (ltb n (2 ^ w)) .0 fits in
+    let both = and-eq-true-iff (isInside l at w) (ltb n (2 ^ w)) .0 fits in
     ap valueOf (put-back (fitsNumber l at w n) l at w n h fits (leb-true (at + w) (length l) (both .0)))
     ∙ number-back w n (ltb-true n (2 ^ w) (both .1))
 
 -- A number with a sign that was put is taken back.
 pub put-signed-back : (l : List ℕ) (at w : ℕ) (z : ℤ) → fitsSigned l at w z ≡ true
-    → signedOf (partAt (signedBytes l at w z) at w) ≡ z
+    → signedOf (bitsAt (signedBytes l at w z) at w) ≡ z
 put-signed-back l at w z fits =
-    let both = and-eq-true-iff (within l at w) (holdsSigned w z) .0 fits in
+    let both = and-eq-true-iff (isInside l at w) (holdsSigned w z) .0 fits in
     ap signedOf
     (put-back (fitsSigned l at w z) l at w (unsignedOf w z) (holds-means w z (both .1) .1) fits (leb-true (at + w) (length l) (both .0)))
     ∙ signed-back w z (both .1)

@@ -18,14 +18,14 @@ sums (x ∷ xs) [] = []
 sums (x ∷ xs) (y ∷ ys) = add2 x y ∷ sums xs ys
 
 -- 0 where the two are equal, 1 where they are not
-abbrev pub unlike : ℕ → ℕ → ℕ
-unlike x y = cond (eqb x y) 0 1
+abbrev pub differs : ℕ → ℕ → ℕ
+differs x y = cond (eqb x y) 0 1
 
 -- how many places differ; a place that only one list has counts too
 abbrev pub differing : List ℕ → List ℕ → ℕ
 differing [] ys = length ys
 differing (x ∷ xs) [] = suc (length xs)
-differing (x ∷ xs) (y ∷ ys) = unlike x y + differing xs ys
+differing (x ∷ xs) (y ∷ ys) = differs x y + differing xs ys
 
 -- how many ones a list of bits has
 abbrev pub weight : List ℕ → ℕ
@@ -34,4 +34,4 @@ weight (x ∷ xs) = x + weight xs
 
 -- the places in which two lists differ are all among the 24 from p on
 pub record Within24 (a b : List ℕ) (p : ℕ) : Type 0 where
-  pub among : (k : ℕ) → (getD a k 0 ≡ getD b k 0 → ⊥) → (p ≤ k) × (k < p + 24)
+  pub inside : (k : ℕ) → (getD a k 0 ≡ getD b k 0 → ⊥) → (p ≤ k) × (k < p + 24)

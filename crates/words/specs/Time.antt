@@ -13,21 +13,21 @@ use Rattle.words.specs.declared.refusal.Answer.the-variants.{Done}
 use Rattle.words.specs.declared.time.Time.{Time}
 
 -- the register holds the last eight symbols, the oldest first: the symbol k places before the next one
-abbrev pub back : ℕ → List ℕ → ℕ
-back k register = getD register (8 - k) 0
+abbrev pub symbolBack : ℕ → List ℕ → ℕ
+symbolBack k register = getD register (8 - k) 0
 
 -- the next symbol: the sum modulo 2 of the ones 1, 4, 5, 6, 7 and 8 places before it
 abbrev pub nextSymbol : List ℕ → ℕ
-nextSymbol r = (back 1 r + back 4 r + back 5 r + back 6 r + back 7 r + back 8 r) % 2
+nextSymbol r = (symbolBack 1 r + symbolBack 4 r + symbolBack 5 r + symbolBack 6 r + symbolBack 7 r + symbolBack 8 r) % 2
 
 -- one shift: the oldest symbol leaves, and the next one comes in
-abbrev pub shifted : List ℕ → List ℕ
-shifted r = drop 1 r ++ (nextSymbol r ∷ [])
+abbrev pub oneShift : List ℕ → List ℕ
+oneShift r = drop 1 r ++ (nextSymbol r ∷ [])
 
 -- the symbols that leave a register in n shifts
 unfoldable pub shiftedOut : ℕ → List ℕ → List ℕ
 shiftedOut zero r = []
-shiftedOut (suc n) r = back 8 r ∷ shiftedOut n (shifted r)
+shiftedOut (suc n) r = symbolBack 8 r ∷ shiftedOut n (oneShift r)
 
 -- the top one of a time's nine bits
 abbrev pub topBit : ℕ → ℕ
@@ -52,15 +52,15 @@ abbrev pub noTime : ℕ → ℕ → Time
 noTime number place = record { answer = refusedAt number place; toi = 0; corrected = 0 }
 
 -- of the n times from `toi` on, the first whose word differs in at most nine symbols; refused 3 at 0 if there is none
-unfoldable pub nearest : ℕ → ℕ → List ℕ → Time
-nearest zero toi s = noTime TIME 0
-nearest (suc n) toi s =
-    cond (leb (differing s (timeWord toi)) 9) (timeIs toi (differing s (timeWord toi))) (nearest n (suc toi) s)
+unfoldable pub nearestTime : ℕ → ℕ → List ℕ → Time
+nearestTime zero toi s = noTime TIME 0
+nearestTime (suc n) toi s =
+    cond (leb (differing s (timeWord toi)) 9) (timeIs toi (differing s (timeWord toi))) (nearestTime n (suc toi) s)
 
 -- reading: 1 unless there are 52 symbols, then 2 at the first byte that is no bit, then the time from 0 to 399
 unfoldable pub timeRead : List ℕ → Time
-unfolding nearest
+unfolding nearestTime
 timeRead s =
     cond (eqb (length s) 52)
-    (cond (eqb (firstNotBit s) (length s)) (nearest 400 0 s) (noTime NOT-A-BIT (firstNotBit s)))
+    (cond (eqb (firstNotBit s) (length s)) (nearestTime 400 0 s) (noTime NOT-A-BIT (firstNotBit s)))
     (noTime LENGTH 0)

@@ -7,7 +7,7 @@ ghost use lib.Dec.{leb, ltb};
 ghost use lib.ListN.{length};
 ghost use lib.Seq.{sets};
 ghost use lib.Signed.{mag};
-ghost use Rattle.words.specs.Bits.{firstNotBit, valueOf, bitsOf, signedOf, unsignedOf, partAt, holdsSigned, numberAnswer, numberBytes, signedAnswer, signedBytes};
+ghost use Rattle.words.specs.Bits.{firstNotBit, valueOf, bitsOf, signedOf, unsignedOf, bitsAt, holdsSigned, numberAnswer, numberBytes, signedAnswer, signedBytes};
 use super::refusal::Answer;
 use super::refusal::LENGTH;
 use super::refusal::refuse;
@@ -30,7 +30,7 @@ pub fn first_not_bit(bytes: &[u8]) -> usize
 
 // `width` bytes from `at` on, at most 64, as far as they are there.
 fn part_at(bytes: &[u8], at: usize, width: usize) -> &[u8]
-    ensures { λ r. ⌜ now r ≡ partAt (now (bytes .entry)) at width ⌝ }
+    ensures { λ r. ⌜ now r ≡ bitsAt (now (bytes .entry)) at width ⌝ }
 {
     let from = least(at, bytes.len());
     let count = least(least(width, 64), bytes.len() - from);
@@ -106,14 +106,14 @@ fn signed_of(bits: &[u8]) -> i64
 
 // The number that `width` bits from `at` on stand for; of more than 64 bits, the first 64; past the end there are none.
 pub fn take_number(bytes: &[u8], at: usize, width: usize) -> u64
-    ensures { λ r. ⌜ r ≡ valueOf (partAt (now (bytes .entry)) at width) ⌝ }
+    ensures { λ r. ⌜ r ≡ valueOf (bitsAt (now (bytes .entry)) at width) ⌝ }
 {
     number_of(part_at(bytes, at, width))
 }
 
 // The same with a sign: less 2^width when the first bit is one.
 pub fn take_signed(bytes: &[u8], at: usize, width: usize) -> i64
-    ensures { λ r. ⌜ r ≡ signedOf (partAt (now (bytes .entry)) at width) ⌝ }
+    ensures { λ r. ⌜ r ≡ signedOf (bitsAt (now (bytes .entry)) at width) ⌝ }
 {
     signed_of(part_at(bytes, at, width))
 }

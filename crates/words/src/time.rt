@@ -4,7 +4,7 @@ ghost use Prim.Native.Nat.{_-_, _^_, _<_};
 ghost use lib.Bits.{bitXor};
 ghost use lib.ListN.{length};
 ghost use Rattle.words.specs.Bits.{valueOf, bitsOf};
-ghost use Rattle.words.specs.Time.{shifted, timeWord, timeAnswer, timeBytes, noTime, nearest, timeRead};
+ghost use Rattle.words.specs.Time.{oneShift, timeWord, timeAnswer, timeBytes, noTime, nearestTime, timeRead};
 use super::bits::first_not_bit;
 use super::bits::take_number;
 use super::refusal::Answer;
@@ -25,7 +25,7 @@ pub struct Time {
 // The register, whose eight bits are the last eight symbols, after one shift.
 fn shift(register: u16) -> u16
     requires { ⌜ register < 2 ^ 8 ⌝ }
-    ensures { λ r. ⌜ (r < 2 ^ 8) × (bitsOf 8 r ≡ shifted (bitsOf 8 register)) ⌝ }
+    ensures { λ r. ⌜ (r < 2 ^ 8) × (bitsOf 8 r ≡ oneShift (bitsOf 8 register)) ⌝ }
 {
     let next = (register
         + register / 8
@@ -105,7 +105,7 @@ fn no_time(number: u8, place: usize) -> Time
 // The time from 0 to 399 whose word differs in at most nine symbols.
 fn nearest_to(symbols: u64) -> Time
     requires { ⌜ symbols < 2 ^ 52 ⌝ }
-    ensures { λ r. ⌜ r ≡ nearest 400 0 (bitsOf 52 symbols) ⌝ }
+    ensures { λ r. ⌜ r ≡ nearestTime 400 0 (bitsOf 52 symbols) ⌝ }
 {
     let mut word: u64 = 0;
     let mut toi: u16 = 0;

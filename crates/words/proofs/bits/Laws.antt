@@ -17,7 +17,7 @@ use mir.Syntax.{w64}
 use mir.Val.{SFits, toZ, ofZ}
 use mir.ValLaws.{toZ-ofZ}
 use borrow.Author.Tests.{lt-ltb, le-ltb, ltb-true}
-use Rattle.words.specs.Bits.{firstNotBit, valueOf, bitsOf, signedOf, partAt, putAnswer, putBytes}
+use Rattle.words.specs.Bits.{firstNotBit, valueOf, bitsOf, signedOf, bitsAt, putAnswer, putBytes}
 use Rattle.words.specs.Refusal.{LENGTH, refusedAt}
 use Rattle.words.specs.declared.refusal.Answer.{Answer}
 use Rattle.words.specs.declared.refusal.Answer.the-variants.{Done}
@@ -66,14 +66,14 @@ drop-least (suc n) [] = ap (λ (k : ℕ). drop k []) (min-zero (suc n))
 drop-least (suc n) (x ∷ l) = ap (λ (k : ℕ). drop k (x ∷ l)) (suc-min-suc n (length l)) ∙ drop-least n l
 
 pub part-is : (l : List ℕ) (at w from count : ℕ) → from ≡ min at (length l) → count ≡ min (min w 64) (length l - from)
-    → take (from + count - from) (drop from l) ≡ partAt l at w
+    → take (from + count - from) (drop from l) ≡ bitsAt l at w
 part-is l at w from count e f =
     let cancel : from + count - from ≡ count = omega arith in
     let same : drop from l ≡ drop at l = ap (λ (k : ℕ). drop k l) e ∙ drop-least at l in
     let rest : length l - from ≡ length (drop at l) = sym (length-drop from l) ∙ ap length same in
     ap₂ take (cancel ∙ f ∙ ap (min (min w 64)) rest) same ∙ take-least (min w 64) (drop at l)
 
-pub length-part : (l : List ℕ) (at w : ℕ) → length (partAt l at w) ≤ 64
+pub length-part : (l : List ℕ) (at w : ℕ) → length (bitsAt l at w) ≤ 64
 length-part l at w = omega (arith, length-take (min w 64) (drop at l))
 
 -- ---- a number with a sign of at most 64 bits

@@ -13,13 +13,13 @@ use lib.Dec.{eqb, ltb}
 use lib.ListN.{length, getD, take, drop, set}
 use lib.Seq.{take-suc-set, append-snoc, take-all}
 use borrow.Author.Tests.{le-leb, lt-leb, eqb-true, ltb-true}
-use Rattle.words.specs.Bits.{IsBits, valueOf, bitsOf, partAt}
+use Rattle.words.specs.Bits.{IsBits, valueOf, bitsOf, bitsAt}
 use Rattle.words.specs.Sums.{add2, sums, differing}
 use Rattle.words.specs.Refusal.{TIME}
-use Rattle.words.specs.Time.{back, nextSymbol, shifted, shiftedOut, topBit, timeWord, timeIs, noTime, nearest}
+use Rattle.words.specs.Time.{symbolBack, nextSymbol, oneShift, shiftedOut, topBit, timeWord, timeIs, noTime, nearestTime}
 use Rattle.words.specs.RoundTrip.{number-back, bits-back}
 use Rattle.words.specs.Linear.{word-linear}
-use Rattle.words.specs.Laws.Tests.{all, all-at}
+use Rattle.words.specs.Laws.Tests.{allBelow, below-at}
 use Rattle.words.specs.Laws.Digits.{value-lt, length-bits, bits-are, bits-snoc, bits-mod}
 use Rattle.words.specs.Laws.Sums.{sums-are, differing-weight}
 use Rattle.words.specs.Laws.Xor.{xor-assoc, value-sums, ones-value}
@@ -47,7 +47,7 @@ lower-bits : (w n : ℕ) → drop 1 (bitsOf (suc w) n) ≡ bitsOf w n
 unfolding bitsOf
 lower-bits w n = refl
 
-pub shift-is : (r : ℕ) → bitsOf 8 (r % 128 * 2 + nextOf r) ≡ shifted (bitsOf 8 r)
+pub shift-is : (r : ℕ) → bitsOf 8 (r % 128 * 2 + nextOf r) ≡ oneShift (bitsOf 8 r)
 shift-is r =
     bits-snoc 7 (r % 128 * 2 + nextOf r)
     ∙ ap₂ (λ (n b : ℕ). bitsOf 7 n ++ (b ∷ [])) (half (nextOf r) (omega arith)) (odd (nextOf r) (omega arith))
@@ -61,7 +61,7 @@ shift-is r =
 
 -- ---- writing
 
-oldest : (top r : ℕ) → (top + r / 128) % 2 ≡ add2 top (back 8 (bitsOf 8 r))
+oldest : (top r : ℕ) → (top + r / 128) % 2 ≡ add2 top (symbolBack 8 (bitsOf 8 r))
 unfolding bitsOf
 oldest top r = omega arith
 
@@ -74,7 +74,7 @@ word-begun out toi l =
     (take-suc-set out 0 (topBit toi) (omega arith)) (bits-mod 8 toi)
 
 -- one more symbol
-pub word-more : (out : List ℕ) (top r i next : ℕ) → length out ≡ 52 → i < 52 → bitsOf 8 next ≡ shifted (bitsOf 8 r)
+pub word-more : (out : List ℕ) (top r i next : ℕ) → length out ≡ 52 → i < 52 → bitsOf 8 next ≡ oneShift (bitsOf 8 r)
     → take (i + 1) (set out i ((top + r / 128) % 2)) ++ map (add2 top) (shiftedOut (52 - (i + 1)) (bitsOf 8 next))
     ≡ take i out ++ map (add2 top) (shiftedOut (52 - i) (bitsOf 8 r))
 unfolding shiftedOut
@@ -82,8 +82,8 @@ word-more out top r i next l h e =
     ap (λ (n : ℕ). take n (set out i ((top + r / 128) % 2)) ++ map (add2 top) (shiftedOut (52 - (i + 1)) (bitsOf 8 next))) (add-one i)
     ∙ ap₂ (λ (x y : List ℕ). x ++ map (add2 top) (shiftedOut (52 - (i + 1)) y))
     (take-suc-set out i ((top + r / 128) % 2) (omega arith)) e
-    ∙ append-snoc (take i out) ((top + r / 128) % 2) (map (add2 top) (shiftedOut (52 - (i + 1)) (shifted (bitsOf 8 r))))
-    ∙ ap (λ (x : ℕ). take i out ++ x ∷ map (add2 top) (shiftedOut (52 - (i + 1)) (shifted (bitsOf 8 r)))) (oldest top r)
+    ∙ append-snoc (take i out) ((top + r / 128) % 2) (map (add2 top) (shiftedOut (52 - (i + 1)) (oneShift (bitsOf 8 r))))
+    ∙ ap (λ (x : ℕ). take i out ++ x ∷ map (add2 top) (shiftedOut (52 - (i + 1)) (oneShift (bitsOf 8 r)))) (oldest top r)
     ∙ ap (λ (n : ℕ). take i out ++ map (add2 top) (shiftedOut n (bitsOf 8 r))) (let f : suc (52 - (i + 1)) ≡ 52 - i = omega arith in f)
 
 pub word-done : (out w : List ℕ) (top r i : ℕ) → length out ≡ 52 → 52 ≤ i
@@ -95,9 +95,9 @@ word-done out w top r i l h e =
 
 -- ---- packed words
 
-pub packed : (l : List ℕ) → length l ≡ 52 → (valueOf (partAt l 0 52) ≡ valueOf l) × (valueOf (partAt l 0 52) < 2 ^ 52)
+pub packed : (l : List ℕ) → length l ≡ 52 → (valueOf (bitsAt l 0 52) ≡ valueOf l) × (valueOf (bitsAt l 0 52) < 2 ^ 52)
 packed l e =
-    let whole : valueOf (partAt l 0 52) ≡ valueOf l = ap valueOf (take-all 52 l (omega arith)) in
+    let whole : valueOf (bitsAt l 0 52) ≡ valueOf l = ap valueOf (take-all 52 l (omega arith)) in
     (whole, rw whole (rw e at (value-lt l)))
 
 pub unpacked : (l : List ℕ) → length l ≡ 52 → IsBits l → bitsOf 52 (valueOf l) ≡ l
@@ -127,25 +127,25 @@ packed-distance n t word h e =
 -- ---- the search, from a time on
 
 pub nearest-here : (s : List ℕ) (t : ℕ) → t < 400 → differing s (timeWord t) ≤ 9
-    → nearest (400 - t) t s ≡ timeIs t (differing s (timeWord t))
-unfolding nearest
+    → nearestTime (400 - t) t s ≡ timeIs t (differing s (timeWord t))
+unfolding nearestTime
 nearest-here s t h near =
-    ap (λ (n : ℕ). nearest n t s) (let e : 400 - t ≡ suc (400 - (t + 1)) = omega arith in e)
-    ∙ ap (λ (b : Bool). cond b (timeIs t (differing s (timeWord t))) (nearest (400 - (t + 1)) (suc t) s))
+    ap (λ (n : ℕ). nearestTime n t s) (let e : 400 - t ≡ suc (400 - (t + 1)) = omega arith in e)
+    ∙ ap (λ (b : Bool). cond b (timeIs t (differing s (timeWord t))) (nearestTime (400 - (t + 1)) (suc t) s))
     (le-leb (differing s (timeWord t)) 9 near)
 
 pub nearest-on : (s : List ℕ) (t : ℕ) → t < 400 → 9 < differing s (timeWord t)
-    → nearest (400 - t) t s ≡ nearest (400 - (t + 1)) (t + 1) s
-unfolding nearest
+    → nearestTime (400 - t) t s ≡ nearestTime (400 - (t + 1)) (t + 1) s
+unfolding nearestTime
 nearest-on s t h far =
-    ap (λ (n : ℕ). nearest n t s) (let e : 400 - t ≡ suc (400 - (t + 1)) = omega arith in e)
-    ∙ ap (λ (b : Bool). cond b (timeIs t (differing s (timeWord t))) (nearest (400 - (t + 1)) (suc t) s))
+    ap (λ (n : ℕ). nearestTime n t s) (let e : 400 - t ≡ suc (400 - (t + 1)) = omega arith in e)
+    ∙ ap (λ (b : Bool). cond b (timeIs t (differing s (timeWord t))) (nearestTime (400 - (t + 1)) (suc t) s))
     (lt-leb (differing s (timeWord t)) 9 far)
-    ∙ ap (λ (n : ℕ). nearest (400 - (t + 1)) n s) (sym (add-one t))
+    ∙ ap (λ (n : ℕ). nearestTime (400 - (t + 1)) n s) (sym (add-one t))
 
-pub nearest-end : (s : List ℕ) (t : ℕ) → 400 ≤ t → nearest (400 - t) t s ≡ noTime TIME 0
-unfolding nearest
-nearest-end s t h = ap (λ (n : ℕ). nearest n t s) (let e : 400 - t ≡ 0 = omega arith in e)
+pub nearest-end : (s : List ℕ) (t : ℕ) → 400 ≤ t → nearestTime (400 - t) t s ≡ noTime TIME 0
+unfolding nearestTime
+nearest-end s t h = ap (λ (n : ℕ). nearestTime n t s) (let e : 400 - t ≡ 0 = omega arith in e)
 
 pub zero-packed : 0 ≡ valueOf (timeWord 0)
 unfolding valueOf timeWord shiftedOut bitsOf
@@ -160,16 +160,16 @@ turns = 0x00F3A905B4BE3 ∷ 0x01E7520B697C6 ∷ 0x03CEA416D2F8C ∷ 0x079D482DA5
 right : ℕ → Bool
 right k = eqb (getD turns k 0) (valueOf (timeWord (2 ^ suc k - 1)))
 
-all-right : all right 9 ≡ true
-unfolding all right turns valueOf timeWord shiftedOut bitsOf
+all-right : allBelow right 9 ≡ true
+unfolding allBelow right turns valueOf timeWord shiftedOut bitsOf
 all-right = refl
 
 -- a time and the one before it differ in the lowest bit that is set and those below it
 lowest : ℕ → Bool
 lowest t = ltb (trailingZeros 16 (suc t)) 9 && eqb (bitXor t (suc t)) (2 ^ suc (trailingZeros 16 (suc t)) - 1)
 
-all-lowest : all lowest 511 ≡ true
-unfolding all lowest trailingZeros
+all-lowest : allBelow lowest 511 ≡ true
+unfolding allBelow lowest trailingZeros
 all-lowest = refl
 
 right-at : (t : ℕ) → t < 511
@@ -177,10 +177,10 @@ right-at : (t : ℕ) → t < 511
 unfolding right lowest
 right-at t h =
     let k = trailingZeros 16 (suc t) in
-    let both = and-eq-true-iff (ltb k 9) (eqb (bitXor t (suc t)) (2 ^ suc k - 1)) .0 (all-at lowest 511 all-lowest t h) in
-    let within : k < 9 = ltb-true k 9 (both .0) in (
-      within,
-      eqb-true (getD turns k 0) (valueOf (timeWord (2 ^ suc k - 1))) (all-at right 9 all-right k within)
+    let both = and-eq-true-iff (ltb k 9) (eqb (bitXor t (suc t)) (2 ^ suc k - 1)) .0 (below-at lowest 511 all-lowest t h) in
+    let small : k < 9 = ltb-true k 9 (both .0) in (
+      small,
+      eqb-true (getD turns k 0) (valueOf (timeWord (2 ^ suc k - 1))) (below-at right 9 all-right k small)
           ∙ ap (λ (n : ℕ). valueOf (timeWord n)) (sym (eqb-true (bitXor t (suc t)) (2 ^ suc k - 1) (both .1))),
     )
 

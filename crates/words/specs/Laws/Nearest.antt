@@ -13,26 +13,26 @@ use borrow.Author.Tests.{leb-true, leb-false, eq-eqb, lt-leb}
 use Rattle.words.specs.Bits.{IsBits, firstNotBit}
 use Rattle.words.specs.Sums.{differing}
 use Rattle.words.specs.Refusal.{TIME, numberOf}
-use Rattle.words.specs.Time.{timeWord, timeIs, noTime, nearest, timeRead}
+use Rattle.words.specs.Time.{timeWord, timeIs, noTime, nearestTime, timeRead}
 use Rattle.words.specs.declared.time.Time.{Time}
 use Rattle.words.specs.Laws.Digits.{bits-none}
 
 -- 52 bits are judged by the search alone
-pub read-bits : (s : List ℕ) → length s ≡ 52 → IsBits s → timeRead s ≡ nearest 400 0 s
+pub read-bits : (s : List ℕ) → length s ≡ 52 → IsBits s → timeRead s ≡ nearestTime 400 0 s
 unfolding timeRead
 read-bits s l b = rw (eq-eqb (length s) 52 l, eq-eqb (firstNotBit s) (length s) (bits-none s b)) refl
 
 -- what is found is within nine, with its number of places
-pub nearest-found : (n t : ℕ) (s : List ℕ) (u d : ℕ) → nearest n t s ≡ timeIs u d
+pub nearest-found : (n t : ℕ) (s : List ℕ) (u d : ℕ) → nearestTime n t s ≡ timeIs u d
     → (u < t + n) × (differing s (timeWord u) ≡ d) × (d ≤ 9)
-unfolding nearest
+unfolding nearestTime
 nearest-found zero t s u d e =
     absurd (let y : 3 ≡ 0 = ap (λ (r : Time). numberOf (r .answer)) e in omega arith)
 nearest-found (suc n) t s u d e = go (leb (differing s (timeWord t)) 9) refl e (nearest-found n (suc t) s u d)
   where
     go : (b : Bool) → leb (differing s (timeWord t)) 9 ≡ b
-        → cond b (timeIs t (differing s (timeWord t))) (nearest n (suc t) s) ≡ timeIs u d
-        → (nearest n (suc t) s ≡ timeIs u d → (u < suc t + n) × (differing s (timeWord u) ≡ d) × (d ≤ 9))
+        → cond b (timeIs t (differing s (timeWord t))) (nearestTime n (suc t) s) ≡ timeIs u d
+        → (nearestTime n (suc t) s ≡ timeIs u d → (u < suc t + n) × (differing s (timeWord u) ≡ d) × (d ≤ 9))
         → (u < t + suc n) × (differing s (timeWord u) ≡ d) × (d ≤ 9)
     go true l e ih =
         let tu : t ≡ u = ap (λ (r : Time). r .toi) e in
@@ -41,15 +41,15 @@ nearest-found (suc n) t s u d e = go (leb (differing s (timeWord t)) 9) refl e (
     go false l e ih = let r = ih e in (omega arith, r .1, r .2)
 
 -- a refusal means that none is within nine
-pub nearest-none : (n t : ℕ) (s : List ℕ) → nearest n t s ≡ noTime TIME 0 → (u : ℕ) → t ≤ u → u < t + n
+pub nearest-none : (n t : ℕ) (s : List ℕ) → nearestTime n t s ≡ noTime TIME 0 → (u : ℕ) → t ≤ u → u < t + n
     → 9 < differing s (timeWord u)
-unfolding nearest
+unfolding nearestTime
 nearest-none zero t s e u h k = absurd (omega arith)
 nearest-none (suc n) t s e u h k = go (leb (differing s (timeWord t)) 9) refl e (λ f. nearest-none n (suc t) s f u)
   where
     go : (b : Bool) → leb (differing s (timeWord t)) 9 ≡ b
-        → cond b (timeIs t (differing s (timeWord t))) (nearest n (suc t) s) ≡ noTime TIME 0
-        → (nearest n (suc t) s ≡ noTime TIME 0 → suc t ≤ u → u < suc t + n → 9 < differing s (timeWord u))
+        → cond b (timeIs t (differing s (timeWord t))) (nearestTime n (suc t) s) ≡ noTime TIME 0
+        → (nearestTime n (suc t) s ≡ noTime TIME 0 → suc t ≤ u → u < suc t + n → 9 < differing s (timeWord u))
         → 9 < differing s (timeWord u)
     go true l e ih = absurd (let y : 0 ≡ 3 = ap (λ (r : Time). numberOf (r .answer)) e in omega arith)
     go false l e ih =
@@ -61,15 +61,15 @@ nearest-none (suc n) t s e u h k = go (leb (differing s (timeWord t)) 9) refl e 
 -- the only one within nine is found
 pub nearest-hit : (n t : ℕ) (s : List ℕ) (u : ℕ) → t ≤ u → u < t + n → differing s (timeWord u) ≤ 9
     → ((v : ℕ) → v < t + n → differing s (timeWord v) ≤ 9 → v ≡ u)
-    → nearest n t s ≡ timeIs u (differing s (timeWord u))
-unfolding nearest
+    → nearestTime n t s ≡ timeIs u (differing s (timeWord u))
+unfolding nearestTime
 nearest-hit zero t s u h k near only = absurd (omega arith)
 nearest-hit (suc n) t s u h k near only =
     go (leb (differing s (timeWord t)) 9) refl (λ g. nearest-hit n (suc t) s u g (omega arith) near (λ v m. only v (omega arith)))
   where
     go : (b : Bool) → leb (differing s (timeWord t)) 9 ≡ b
-        → (suc t ≤ u → nearest n (suc t) s ≡ timeIs u (differing s (timeWord u)))
-        → cond b (timeIs t (differing s (timeWord t))) (nearest n (suc t) s) ≡ timeIs u (differing s (timeWord u))
+        → (suc t ≤ u → nearestTime n (suc t) s ≡ timeIs u (differing s (timeWord u)))
+        → cond b (timeIs t (differing s (timeWord t))) (nearestTime n (suc t) s) ≡ timeIs u (differing s (timeWord u))
     go true l ih =
         ap (λ (x : ℕ). timeIs x (differing s (timeWord x)))
         (only t (omega arith) (leb-true (differing s (timeWord t)) 9 l))
@@ -81,10 +81,10 @@ nearest-hit (suc n) t s u h k near only =
 
 -- and where none is, it is refused
 pub nearest-refused : (n t : ℕ) (s : List ℕ) → ((u : ℕ) → u < t + n → 9 < differing s (timeWord u))
-    → nearest n t s ≡ noTime TIME 0
-unfolding nearest
+    → nearestTime n t s ≡ noTime TIME 0
+unfolding nearestTime
 nearest-refused zero t s far = refl
 nearest-refused (suc n) t s far =
-    ap (λ (b : Bool). cond b (timeIs t (differing s (timeWord t))) (nearest n (suc t) s))
+    ap (λ (b : Bool). cond b (timeIs t (differing s (timeWord t))) (nearestTime n (suc t) s))
     (lt-leb (differing s (timeWord t)) 9 (far t (omega arith)))
     ∙ nearest-refused n (suc t) s (λ u h. far u (omega arith))

@@ -9,7 +9,7 @@ use native.Mathlib.Nat.{min-eq-left}
 use native.Mathlib.Omega.{arith}
 use lib.ListN.{length, getD, take, drop, set}
 use lib.Seq.{sets, sets-eq, length-take-le, take-at, drop-at, getD-set-other}
-use Rattle.words.specs.Bits.{bitsOf, partAt, putBytes}
+use Rattle.words.specs.Bits.{bitsOf, bitsAt, putBytes}
 use Rattle.words.specs.Laws.Digits.{length-bits}
 
 sets-part : (l : List ℕ) (at : ℕ) (bits : List ℕ) → at + length bits ≤ length l
@@ -29,9 +29,9 @@ sets-other l at (b ∷ bits) k h =
 
 -- what was put stands there
 pub put-back : (fits : Bool) (l : List ℕ) (at w n : ℕ) → w ≤ 64 → fits ≡ true → at + w ≤ length l
-    → partAt (putBytes fits l at (bitsOf w n)) at w ≡ bitsOf w n
+    → bitsAt (putBytes fits l at (bitsOf w n)) at w ≡ bitsOf w n
 put-back fits l at w n h e inside =
     let count = length-bits w n in
-    ap (λ (t : Bool). partAt (putBytes t l at (bitsOf w n)) at w) e
+    ap (λ (t : Bool). bitsAt (putBytes t l at (bitsOf w n)) at w) e
     ∙ ap (λ (k : ℕ). take k (drop at (sets l at (bitsOf w n)))) (min-eq-left h ∙ sym count)
     ∙ sets-part l at (bitsOf w n) (omega arith)

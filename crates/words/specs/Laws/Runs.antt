@@ -159,21 +159,21 @@ even-ones l e = omega (arith, sym (remainder-ones 0 l) ∙ ap (λ (x : ℕ). one
 
 -- ---- ones within 24 neighbouring places
 
-none : (l : List ℕ) → ((k : ℕ) → getD l k 0 ≡ 0) → weight l ≡ 0
-none [] h = refl
-none (x ∷ l) h = omega (arith, h 0, none l (λ k. h (suc k)))
+no-ones : (l : List ℕ) → ((k : ℕ) → getD l k 0 ≡ 0) → weight l ≡ 0
+no-ones [] h = refl
+no-ones (x ∷ l) h = omega (arith, h 0, no-ones l (λ k. h (suc k)))
 
 -- a register of k digits, then m places and then zeros
-pub run : (m k r : ℕ) (l : List ℕ) → r < 2 ^ k → k + m ≤ 24 → IsBits l → ((i : ℕ) → m ≤ i → getD l i 0 ≡ 0)
+pub short-run : (m k r : ℕ) (l : List ℕ) → r < 2 ^ k → k + m ≤ 24 → IsBits l → ((i : ℕ) → m ≤ i → getD l i 0 ≡ 0)
     → remainderFrom r l ≡ 0 → (r ≡ 0) × (weight l ≡ 0)
-run zero k r l h n b past z = (zeros-behind r l (none l (λ i. past i zero-le)) z, none l (λ i. past i zero-le))
-run (suc m) k r [] h n b past z = (z, refl)
-run (suc m) k r (x ∷ l) h n b past z =
+short-run zero k r l h n b past z = (zeros-behind r l (no-ones l (λ i. past i zero-le)) z, no-ones l (λ i. past i zero-le))
+short-run (suc m) k r [] h n b past z = (z, refl)
+short-run (suc m) k r (x ∷ l) h n b past z =
     let small : r < 2 ^ 23 = lt-of-lt-of-le h (pow-mono {i = k} {j = 23} (omega arith)) in
     let bit : x < 2 = first-bit b in
     let same : fed r x ≡ r * 2 + x = fed-low r x (omega arith) ∙ omega arith in
     let rest : (r * 2 + x ≡ 0) × (weight l ≡ 0) =
-    run m (suc k) (r * 2 + x) l (omega (arith, pow-suc 2 k)) (omega arith) (other-bits b) (λ i g. past (suc i) (omega arith))
+    short-run m (suc k) (r * 2 + x) l (omega (arith, pow-suc 2 k)) (omega arith) (other-bits b) (λ i g. past (suc i) (omega arith))
     (subst (λ (s : ℕ). remainderFrom s l ≡ 0) same z) in
     (omega arith, omega arith)
 
@@ -181,7 +181,7 @@ run (suc m) k r (x ∷ l) h n b past z =
 pub not-within : (p : ℕ) (l : List ℕ) → IsBits l → ((i : ℕ) → i < p → getD l i 0 ≡ 0) → ((i : ℕ) → p + 24 ≤ i → getD l i 0 ≡ 0)
     → Right l → weight l ≡ 0
 unfolding fed
-not-within zero l b before past z = run 24 0 0 l (lit< tt) (lit≤ tt) b (λ i g. past i (omega arith)) z .1
+not-within zero l b before past z = short-run 24 0 0 l (lit< tt) (lit≤ tt) b (λ i g. past i (omega arith)) z .1
 not-within (suc p) [] b before past z = refl
 not-within (suc p) (zero ∷ l) b before past z =
     omega (arith, not-within p l (other-bits b) (λ i g. before (suc i) (omega arith)) (λ i g. past (suc i) (omega arith)) z)

@@ -10,7 +10,7 @@ use lib.Dec.{eqb}
 use lib.ListN.{length, getD, replicate}
 use borrow.Author.Tests.{eqb-true, eqb-false, eq-eqb, ne-eqb}
 use Rattle.words.specs.Bits.{IsBits}
-use Rattle.words.specs.Sums.{add2, sums, unlike, differing, weight}
+use Rattle.words.specs.Sums.{add2, sums, differs, differing, weight}
 use Rattle.words.specs.Laws.Digits.{first-bit, other-bits, no-bits, more-bits}
 
 -- ---- two symbols
@@ -30,7 +30,7 @@ add2-right x y = omega arith
 pub add2-assoc : (a b c : ℕ) → add2 (add2 a b) c ≡ add2 a (add2 b c)
 add2-assoc a b c = sym (add2-left (a + b) c) ∙ ap (λ (x : ℕ). x % 2) (omega arith) ∙ add2-right a (b + c)
 
-unlike-bits : (x y : ℕ) → x < 2 → y < 2 → unlike x y ≡ add2 x y
+unlike-bits : (x y : ℕ) → x < 2 → y < 2 → differs x y ≡ add2 x y
 unlike-bits zero zero hx hy = refl
 unlike-bits zero (suc zero) hx hy = refl
 unlike-bits zero (suc (suc y)) hx hy = absurd (omega arith)
@@ -39,21 +39,21 @@ unlike-bits (suc zero) (suc zero) hx hy = refl
 unlike-bits (suc zero) (suc (suc y)) hx hy = absurd (omega arith)
 unlike-bits (suc (suc x)) y hx hy = absurd (omega arith)
 
-unlike-eq : (x y : ℕ) → x ≡ y → unlike x y ≡ 0
+unlike-eq : (x y : ℕ) → x ≡ y → differs x y ≡ 0
 unlike-eq x y e = ap (λ (t : Bool). cond t 0 1) (eq-eqb x y e)
 
-unlike-ne : (x y : ℕ) → (x ≡ y → ⊥) → unlike x y ≡ 1
+unlike-ne : (x y : ℕ) → (x ≡ y → ⊥) → differs x y ≡ 1
 unlike-ne x y e = ap (λ (t : Bool). cond t 0 1) (ne-eqb x y e)
 
-unlike-comm : (x y : ℕ) → unlike x y ≡ unlike y x
+unlike-comm : (x y : ℕ) → differs x y ≡ differs y x
 unlike-comm x y = go (eqb x y) refl
   where
-    go : (t : Bool) → eqb x y ≡ t → unlike x y ≡ unlike y x
+    go : (t : Bool) → eqb x y ≡ t → differs x y ≡ differs y x
     go true e = unlike-eq x y (eqb-true x y e) ∙ sym (unlike-eq y x (sym (eqb-true x y e)))
     go false e = unlike-ne x y (eqb-false x y e) ∙ sym (unlike-ne y x (λ q. eqb-false x y e (sym q)))
 
 -- the three sides of a triangle, at one place
-unlike-triangle : (x y z : ℕ) → unlike x z ≤ unlike x y + unlike y z
+unlike-triangle : (x y z : ℕ) → differs x z ≤ differs x y + differs y z
 unlike-triangle x y z = go (eqb x y) (eqb y z) (eqb x z) refl refl refl
   where
     go : (p q r : Bool) → eqb x y ≡ p → eqb y z ≡ q → eqb x z ≡ r → cond r 0 1 ≤ cond p 0 1 + cond q 0 1

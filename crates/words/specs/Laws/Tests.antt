@@ -8,18 +8,18 @@ use native.Mathlib.Nat.{eq-or-lt-of-le, le-of-suc-le-suc}
 use native.Mathlib.Omega.{arith}
 
 -- the test holds of every number below n
-unfoldable pub all : (ℕ → Bool) → ℕ → Bool
-all test zero = true
-all test (suc n) = test n && all test n
+unfoldable pub allBelow : (ℕ → Bool) → ℕ → Bool
+allBelow test zero = true
+allBelow test (suc n) = test n && allBelow test n
 
-pub all-at : (test : ℕ → Bool) (n : ℕ) → all test n ≡ true → (k : ℕ) → k < n → test k ≡ true
-unfolding all
-all-at test zero p k h = absurd (omega arith)
-all-at test (suc n) p k h =
-    let both = and-eq-true-iff (test n) (all test n) .0 p in
+pub below-at : (test : ℕ → Bool) (n : ℕ) → allBelow test n ≡ true → (k : ℕ) → k < n → test k ≡ true
+unfolding allBelow
+below-at test zero p k h = absurd (omega arith)
+below-at test (suc n) p k h =
+    let both = and-eq-true-iff (test n) (allBelow test n) .0 p in
     ⊎-elim
     (λ e. subst (λ (m : ℕ). test m ≡ true) (sym e) (both .0))
-    (λ l. all-at test n (both .1) k l)
+    (λ l. below-at test n (both .1) k l)
     (eq-or-lt-of-le (le-of-suc-le-suc h))
 
 -- two tests that say the same are equal

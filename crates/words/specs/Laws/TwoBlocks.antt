@@ -44,8 +44,8 @@ module _ (a b : List ℕ) (h : BothRight a b) where
   pub sum-within : (p : ℕ) → Within24 a b p → differing a b ≡ 0
   sum-within p near =
       sum-weight
-      ∙ not-within p (sums a b) (sums-are a b) (λ i g. sum-at i (λ ne. omega (arith, near .among i ne .0)))
-      (λ i g. sum-at i (λ ne. omega (arith, near .among i ne .1))) sum-right
+      ∙ not-within p (sums a b) (sums-are a b) (λ i g. sum-at i (λ ne. omega (arith, near .inside i ne .0)))
+      (λ i g. sum-at i (λ ne. omega (arith, near .inside i ne .1))) sum-right
 
 pub at-least-four : (n : ℕ) → n % 2 ≡ 0 → (n ≡ 0 → ⊥) → (n ≡ 2 → ⊥) → 4 ≤ n
 at-least-four zero e z t = absurd (z refl)

@@ -10,9 +10,9 @@ use lib.ListN.{length, drop, length-map, length-append, length-drop}
 use borrow.Author.Tests.{leb-true}
 use Rattle.words.specs.Bits.{IsBits, bitsOf}
 use Rattle.words.specs.Sums.{add2, sums, weight}
-use Rattle.words.specs.Time.{back, nextSymbol, shifted, shiftedOut, topBit, timeWord}
+use Rattle.words.specs.Time.{symbolBack, nextSymbol, oneShift, shiftedOut, topBit, timeWord}
 use Rattle.words.specs.Laws.Digits.{no-bits, more-bits}
-use Rattle.words.specs.Laws.Tests.{all, all-at}
+use Rattle.words.specs.Laws.Tests.{allBelow, below-at}
 use Rattle.words.specs.Laws.Sums.{add2-swap, sums-at, sums-append}
 
 -- ---- length and bits
@@ -20,7 +20,7 @@ use Rattle.words.specs.Laws.Sums.{add2-swap, sums-at, sums-append}
 length-shifted-out : (n : ℕ) (r : List ℕ) → length (shiftedOut n r) ≡ n
 unfolding shiftedOut
 length-shifted-out zero r = refl
-length-shifted-out (suc n) r = ap suc (length-shifted-out n (shifted r))
+length-shifted-out (suc n) r = ap suc (length-shifted-out n (oneShift r))
 
 pub word-length : (t : ℕ) → length (timeWord t) ≡ 52
 unfolding timeWord
@@ -43,8 +43,8 @@ more s p q c d e = omega arith
 next-sums : (a b : List ℕ) → length a ≡ length b → nextSymbol (sums a b) ≡ add2 (nextSymbol a) (nextSymbol b)
 next-sums a b e =
     rw (sums-at a b e 7, sums-at a b e 4, sums-at a b e 3, sums-at a b e 2, sums-at a b e 1, sums-at a b e 0)
-    (six (back 1 a) (back 4 a) (back 5 a) (back 6 a) (back 7 a) (back 8 a)
-    (back 1 b) (back 4 b) (back 5 b) (back 6 b) (back 7 b) (back 8 b))
+    (six (symbolBack 1 a) (symbolBack 4 a) (symbolBack 5 a) (symbolBack 6 a) (symbolBack 7 a) (symbolBack 8 a)
+    (symbolBack 1 b) (symbolBack 4 b) (symbolBack 5 b) (symbolBack 6 b) (symbolBack 7 b) (symbolBack 8 b))
   where
     last : (p q : ℕ) → (p + q) % 2 ≡ (p % 2 + q % 2) % 2
     last p q = omega arith
@@ -68,13 +68,13 @@ drop-sums [] (y ∷ b) e = absurd (omega arith)
 drop-sums (x ∷ a) [] e = absurd (omega arith)
 drop-sums (x ∷ a) (y ∷ b) e = refl
 
-shifted-sums : (a b : List ℕ) → length a ≡ length b → shifted (sums a b) ≡ sums (shifted a) (shifted b)
+shifted-sums : (a b : List ℕ) → length a ≡ length b → oneShift (sums a b) ≡ sums (oneShift a) (oneShift b)
 shifted-sums a b e =
     ap₂ (λ (l : List ℕ) (x : ℕ). l ++ (x ∷ [])) (drop-sums a b e) (next-sums a b e)
     ∙ sym (sums-append (drop 1 a) (drop 1 b) (nextSymbol a ∷ []) (nextSymbol b ∷ [])
     (simp length-drop (ap (λ (n : ℕ). n - 1) e)))
 
-length-shifted : (a b : List ℕ) → length a ≡ length b → length (shifted a) ≡ length (shifted b)
+length-shifted : (a b : List ℕ) → length a ≡ length b → length (oneShift a) ≡ length (oneShift b)
 length-shifted a b e = simp (length-append, length-drop) (ap (λ (n : ℕ). n - 1 + 1) e)
 
 pub shifted-out-sums : (n : ℕ) (a b : List ℕ) → length a ≡ length b
@@ -83,7 +83,7 @@ unfolding shiftedOut
 shifted-out-sums zero a b e = refl
 shifted-out-sums (suc n) a b e =
     ap₂ (λ (x : ℕ) (l : List ℕ). x ∷ l) (sums-at a b e 0)
-    (ap (shiftedOut n) (shifted-sums a b e) ∙ shifted-out-sums n (shifted a) (shifted b) (length-shifted a b e))
+    (ap (shiftedOut n) (shifted-sums a b e) ∙ shifted-out-sums n (oneShift a) (oneShift b) (length-shifted a b e))
 
 pub added-sums : (t u : ℕ) (a b : List ℕ) → map (add2 (add2 t u)) (sums a b) ≡ sums (map (add2 t) a) (map (add2 u) b)
 added-sums t u [] b = refl
@@ -95,10 +95,10 @@ added-sums t u (x ∷ a) (y ∷ b) = ap₂ (λ (z : ℕ) (l : List ℕ). z ∷ l
 heavy : ℕ → Bool
 heavy t = leb 20 (weight (timeWord (suc t)))
 
-all-heavy : all heavy 511 ≡ true
-unfolding all heavy timeWord shiftedOut bitsOf
+all-heavy : allBelow heavy 511 ≡ true
+unfolding allBelow heavy timeWord shiftedOut bitsOf
 all-heavy = refl
 
 pub word-heavy : (t : ℕ) → t < 511 → 20 ≤ weight (timeWord (suc t))
 unfolding heavy
-word-heavy t h = leb-true 20 (weight (timeWord (suc t))) (all-at heavy 511 all-heavy t h)
+word-heavy t h = leb-true 20 (weight (timeWord (suc t))) (below-at heavy 511 all-heavy t h)

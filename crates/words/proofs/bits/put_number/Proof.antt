@@ -5,7 +5,7 @@ use Prim.Native.Nat.{_+_, _^_}
 use lib.Dec.{ltb}
 use lib.ListN.{length}
 use borrow.Author.Tests.{leb-true}
-use Rattle.words.specs.Bits.{bitsOf, within, fitsNumber}
+use Rattle.words.specs.Bits.{bitsOf, isInside, fitsNumber}
 use Rattle.words.proofs.bits.Laws.{put-done, put-refused}
 use borrow.Author.Needs.{needs}
 use Rattle.words.proofs.bits.put_number.Statement.{statement}
@@ -18,7 +18,7 @@ put-bits-requires : tie.Need-put-bits-requires
 put-bits-requires c κs =
     let args = c .before .before .before .before .args in
     leb-true (args .at + args .width) (length (args .bytes .now))
-    (and-eq-true-iff (within (args .bytes .now) (args .at) (args .width)) (ltb (args .number) (2 ^ args .width)) .0
+    (and-eq-true-iff (isInside (args .bytes .now) (args .at) (args .width)) (ltb (args .number) (2 ^ args .width)) .0
     (sym (c .before .before .fits-number .ensures) ∙ c .before .if1 .taken) .0)
 
 same-length : tie.Need-same-length

@@ -9,7 +9,7 @@ use borrow.Author.Tests.{leb-true}
 use mir.Syntax.{w64}
 use mir.Val.{toZ, ofZ}
 use mir.ValLaws.{toZ-ofZ}
-use Rattle.words.specs.Bits.{bitsOf, unsignedOf, within, holdsSigned, fitsSigned}
+use Rattle.words.specs.Bits.{bitsOf, unsignedOf, isInside, holdsSigned, fitsSigned}
 use Rattle.words.proofs.bits.Laws.{put-done, put-refused}
 use borrow.Author.Needs.{needs}
 use Rattle.words.proofs.bits.put_signed.Statement.{statement}
@@ -26,7 +26,7 @@ tested : (c : tie.After-fits-signed) → c .fits-signed .result ≡ fitting (c .
 tested c =
     let args = c .before .before .args in
     c .fits-signed .ensures
-    ∙ ap (λ (z : ℤ). within (args .bytes .now) (args .at) (args .width) && holdsSigned (args .width) z) (same (c .before .before))
+    ∙ ap (λ (z : ℤ). isInside (args .bytes .now) (args .at) (args .width) && holdsSigned (args .width) z) (same (c .before .before))
 
 fits-signed-requires : tie.Need-fits-signed-requires
 fits-signed-requires c κs = search needs
@@ -35,14 +35,14 @@ unsigned-of-requires : tie.Need-unsigned-of-requires
 unsigned-of-requires c κs =
     let args = c .before .before .before .before .args in
     rw (same (c .before .before .before .before))
-    (and-eq-true-iff (within (args .bytes .now) (args .at) (args .width)) (holdsSigned (args .width) (args .number)) .0
+    (and-eq-true-iff (isInside (args .bytes .now) (args .at) (args .width)) (holdsSigned (args .width) (args .number)) .0
     (sym (tested (c .before .before)) ∙ c .before .if1 .taken) .1)
 
 put-bits-requires : tie.Need-put-bits-requires
 put-bits-requires c κs =
     let args = c .before .before .before .before .before .args in
     leb-true (args .at + args .width) (length (args .bytes .now))
-    (and-eq-true-iff (within (args .bytes .now) (args .at) (args .width)) (holdsSigned (args .width) (args .number)) .0
+    (and-eq-true-iff (isInside (args .bytes .now) (args .at) (args .width)) (holdsSigned (args .width) (args .number)) .0
     (sym (tested (c .before .before .before)) ∙ c .before .before .if1 .taken) .0)
 
 same-length : tie.Need-same-length

@@ -5,7 +5,7 @@ use Prim.Native.Nat.{ℕ, _+_, _-_, _≤_}
 use native.Mathlib.Omega.{arith}
 use lib.Bits.{bitXor}
 use Rattle.words.specs.Bits.{valueOf, bitsOf}
-use Rattle.words.specs.Time.{timeWord, timeIs, nearest}
+use Rattle.words.specs.Time.{timeWord, timeIs, nearestTime}
 use Rattle.words.proofs.time.Laws.{packed-distance, packed-next, nearest-here, nearest-on, nearest-end, zero-packed}
 use borrow.Author.Needs.{needs}
 use Rattle.words.proofs.time.nearest_to.Statement.{statement}
@@ -13,7 +13,7 @@ use Rattle.words.proofs.time.nearest_to.Tie as tie
 
 abbrev Inv-loop : tie.InvT-loop
 Inv-loop symbols word₀ toi₀ word toi =
-    (toi ≤ 400) × (word ≡ valueOf (timeWord toi)) × (nearest (400 - toi) toi (bitsOf 52 symbols) ≡ nearest 400 0 (bitsOf 52 symbols))
+    (toi ≤ 400) × (word ≡ valueOf (timeWord toi)) × (nearestTime (400 - toi) toi (bitsOf 52 symbols) ≡ nearestTime 400 0 (bitsOf 52 symbols))
 
 abbrev μ-loop : tie.MeasureT-loop
 μ-loop symbols word₀ toi₀ word toi = 400 - toi

@@ -5,7 +5,7 @@ use lib.ListN.{length}
 use borrow.Author.Tests.{eq-eqb, ne-eqb}
 use Rattle.words.specs.Bits.{bitsOf, firstNotBit}
 use Rattle.words.specs.Refusal.{NOT-A-BIT}
-use Rattle.words.specs.Time.{noTime, nearest, timeRead}
+use Rattle.words.specs.Time.{noTime, nearestTime, timeRead}
 use borrow.Author.Needs.{needs}
 use Rattle.words.specs.Laws.Digits.{none-not-bit}
 use Rattle.words.specs.Laws.Nearest.{read-bits}
@@ -50,7 +50,7 @@ returns-3 c =
     let count = c .before .before .before .before .if1 .left in
     let are = none-not-bit l (sym (c .before .before .before .first-not-bit .ensures) ∙ c .before .before .if2 .left) in
     c .nearest-to .ensures
-    ∙ ap (nearest 400 0) (ap (bitsOf 52) (c .before .take-number .ensures ∙ packed l count .0) ∙ unpacked l count are)
+    ∙ ap (nearestTime 400 0) (ap (bitsOf 52) (c .before .take-number .ensures ∙ packed l count .0) ∙ unpacked l count are)
     ∙ sym (read-bits l count are)
 
 pub read-time-spec : {M : Type 1} → statement M
