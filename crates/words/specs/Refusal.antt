@@ -73,7 +73,7 @@ ROOM = 16
 abbrev pub refusedAt : ℕ → ℕ → Answer
 refusedAt number place = Refused (record { number = number; place = place })
 
--- done where the test holdsSigned, and else the refusal with this number, at this place
+-- done where the test holds, and else the refusal with this number, at this place
 abbrev pub doneIf : Bool → ℕ → ℕ → Answer
 doneIf test number place = cond test Done (refusedAt number place)
 

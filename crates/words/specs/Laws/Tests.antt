@@ -1,4 +1,4 @@
--- A rule for every entry of a table, from one test that is computed.
+-- Tests that are computed: one for every entry of a table, with its rule; tests that say the same; tests of two parts.
 -- Assumes nothing.
 use mathlib.Core.Path.{_≡_, refl, sym, ap, _∙_, subst}
 use mathlib.Core.Bool.{Bool, true, false, _&&_, and-eq-true-iff}
@@ -28,7 +28,7 @@ same-test true t f g = sym (f refl)
 same-test false true f g = g refl
 same-test false false f g = refl
 
--- a test of two parts goes on with the second where the first holdsSigned, and ends where it does not
+-- a test of two parts goes on with the second where the first holds, and ends where it does not
 pub and-goes-on : (s t r : Bool) → s ≡ true → r ≡ t → r ≡ (s && t)
 and-goes-on s t r e f = f ∙ ap (λ (x : Bool). x && t) (sym e)
 
