@@ -8,8 +8,7 @@ use Prim.Native.Nat.{ℕ, _+_, _-_, _*_, _/_, _%_, _^_}
 use lib.Bits.{bitXor}
 use lib.Dec.{leb}
 use lib.ListN.{length, replicate, take}
-use Rattle.words.specs.Bits.{IsBits, bitsOf}
-use Rattle.words.specs.Refusal.{LENGTH, doneIf}
+use Rattle.words.specs.Bits.{IsBits, bitsOf, putAnswer}
 use Rattle.words.specs.declared.refusal.Answer.{Answer}
 
 -- x^24 + x^23 + x^18 + x^17 + x^14 + x^11 + x^10 + x^7 + x^6 + x^5 + x^4 + x^3 + x + 1
@@ -49,7 +48,7 @@ Right l = remainderOf l ≡ 0
 
 -- putting check bits into a block's last 24 places: refused 1 at 0 for a block of fewer, which stays as it was
 abbrev pub checkAnswer : List ℕ → Answer
-checkAnswer l = doneIf (leb 24 (length l)) LENGTH 0
+checkAnswer l = putAnswer (leb 24 (length l))
 
 abbrev pub checkBytes : List ℕ → List ℕ
 checkBytes l = cond (leb 24 (length l)) (blockOf (take (length l - 24) l)) l

@@ -10,3 +10,4 @@ pub mod Runs
 pub mod TwoBlocks
 pub mod Words
 pub mod Nearest
+pub mod Judged

@@ -6,9 +6,11 @@ pub mod Sums
 pub mod Crc
 pub mod Time
 pub mod Determined
+pub mod Unchanged
 pub mod RoundTrip
 pub mod Checked
 pub mod Noticed
 pub mod Linear
-pub mod Nearest
+pub mod Distance
+pub mod Reading
 pub mod Laws

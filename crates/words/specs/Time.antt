@@ -1,8 +1,9 @@
 -- The time word (document 01, "Time word"; IS-GPS-800, 3.2.3.2 and Figure 3.2-4).
 -- Assumes nothing.
+use mathlib.Core.Path.{_≡_}
 use mathlib.Core.Bool.{cond, _&&_}
 use mathlib.Core.List.{List, [], _∷_, _++_, map}
-use Prim.Native.Nat.{ℕ, zero, suc, _+_, _-_, _/_, _%_, _^_}
+use Prim.Native.Nat.{ℕ, zero, suc, _+_, _-_, _/_, _%_, _^_, _≤_}
 use lib.Dec.{leb, eqb}
 use lib.ListN.{length, getD, drop}
 use Rattle.words.specs.Bits.{bitsOf, firstNotBit}
@@ -43,6 +44,12 @@ timeAnswer out toi = cond (eqb (length out) 52) (doneIf (leb toi 399) TIME 0) (r
 
 abbrev pub timeBytes : List ℕ → ℕ → List ℕ
 timeBytes out toi = cond (eqb (length out) 52 && leb toi 399) (timeWord toi) out
+
+-- a time from 0 to 399 whose word differs from the symbols in so many places, at most nine
+pub record IsTime (s : List ℕ) (toi places : ℕ) : Type 0 where
+  pub used : toi ≤ 399
+  pub counted : differing s (timeWord toi) ≡ places
+  pub near : places ≤ 9
 
 -- what reading gives: a time, with the number of symbols that differ from its word; or a refusal, with zeros beside it
 abbrev pub timeIs : ℕ → ℕ → Time

@@ -29,7 +29,7 @@ pub fn first_not_bit(bytes: &[u8]) -> usize
 // ---- taking
 
 // `width` bytes from `at` on, at most 64, as far as they are there.
-fn part_at(bytes: &[u8], at: usize, width: usize) -> &[u8]
+fn bits_at(bytes: &[u8], at: usize, width: usize) -> &[u8]
     ensures { λ r. ⌜ now r ≡ bitsAt (now (bytes .entry)) at width ⌝ }
 {
     let from = least(at, bytes.len());
@@ -51,7 +51,7 @@ fn low_bit(byte: u8) -> u64
 }
 
 // The number that at most 64 bits stand for.
-fn number_of(bits: &[u8]) -> u64
+fn value_of(bits: &[u8]) -> u64
     requires { ⌜ length (now bits) ≤ 64 ⌝ }
     ensures { λ r. ⌜ r ≡ valueOf (now (bits .entry)) ⌝ }
 {
@@ -93,7 +93,7 @@ fn signed_of(bits: &[u8]) -> i64
     requires { ⌜ length (now bits) ≤ 64 ⌝ }
     ensures { λ r. ⌜ r ≡ signedOf (now (bits .entry)) ⌝ }
 {
-    let number = number_of(bits);
+    let number = value_of(bits);
     if bits.len() == 0 {
         return 0;
     }
@@ -108,14 +108,14 @@ fn signed_of(bits: &[u8]) -> i64
 pub fn take_number(bytes: &[u8], at: usize, width: usize) -> u64
     ensures { λ r. ⌜ r ≡ valueOf (bitsAt (now (bytes .entry)) at width) ⌝ }
 {
-    number_of(part_at(bytes, at, width))
+    value_of(bits_at(bytes, at, width))
 }
 
 // The same with a sign: less 2^width when the first bit is one.
 pub fn take_signed(bytes: &[u8], at: usize, width: usize) -> i64
     ensures { λ r. ⌜ r ≡ signedOf (bitsAt (now (bytes .entry)) at width) ⌝ }
 {
-    signed_of(part_at(bytes, at, width))
+    signed_of(bits_at(bytes, at, width))
 }
 
 // ---- putting
@@ -128,7 +128,7 @@ fn magnitude(z: i64) -> u64
 }
 
 // `width` bits hold the number.
-fn has_bits(number: u64, width: usize) -> bool
+fn holds_number(number: u64, width: usize) -> bool
     ensures { λ r. ⌜ r ≡ ltb number (2 ^ width) ⌝ }
 {
     if 64 <= width {
@@ -139,7 +139,7 @@ fn has_bits(number: u64, width: usize) -> bool
 }
 
 // `width` bits hold the number with a sign.
-fn has_signed_bits(z: i64, width: usize) -> bool
+fn holds_signed(z: i64, width: usize) -> bool
     ensures { λ r. ⌜ r ≡ holdsSigned width z ⌝ }
 {
     if width < 1 {
@@ -148,11 +148,11 @@ fn has_signed_bits(z: i64, width: usize) -> bool
     if 64 < width {
         return false;
     }
-    has_bits(magnitude(z), width - 1)
+    holds_number(magnitude(z), width - 1)
 }
 
 // `width` bytes from `at` on lie within `count`.
-fn is_within(count: usize, at: usize, width: usize) -> bool
+fn is_inside(count: usize, at: usize, width: usize) -> bool
     ensures { λ r. ⌜ r ≡ leb (at + width) count ⌝ }
 {
     if count < at {
@@ -192,8 +192,8 @@ fn put_bits(bytes: &mut [u8], at: usize, width: usize, number: u64)
 fn fits_number(count: usize, at: usize, width: usize, number: u64) -> bool
     ensures { λ r. ⌜ r ≡ (leb (at + width) count && ltb number (2 ^ width)) ⌝ }
 {
-    if is_within(count, at, width) {
-        has_bits(number, width)
+    if is_inside(count, at, width) {
+        holds_number(number, width)
     } else {
         false
     }
@@ -203,8 +203,8 @@ fn fits_number(count: usize, at: usize, width: usize, number: u64) -> bool
 fn fits_signed(count: usize, at: usize, width: usize, z: i64) -> bool
     ensures { λ r. ⌜ r ≡ (leb (at + width) count && holdsSigned width z) ⌝ }
 {
-    if is_within(count, at, width) {
-        has_signed_bits(z, width)
+    if is_inside(count, at, width) {
+        holds_signed(z, width)
     } else {
         false
     }

@@ -2,6 +2,7 @@
 ghost use mathlib.Core.Path.{_≡_};
 ghost use Rattle.words.specs.Refusal.{refusedAt};
 
+// What each number is given for stands beside its definition, in specs/Refusal.antt.
 pub const LENGTH: u8 = 1;
 
 pub const NOT_A_BIT: u8 = 2;

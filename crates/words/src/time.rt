@@ -103,7 +103,7 @@ fn no_time(number: u8, place: usize) -> Time
 }
 
 // The time from 0 to 399 whose word differs in at most nine symbols.
-fn nearest_to(symbols: u64) -> Time
+fn nearest_time(symbols: u64) -> Time
     requires { ⌜ symbols < 2 ^ 52 ⌝ }
     ensures { λ r. ⌜ r ≡ nearestTime 400 0 (bitsOf 52 symbols) ⌝ }
 {
@@ -135,5 +135,5 @@ pub fn read_time(symbols: &[u8]) -> Time
     if place != symbols.len() {
         return no_time(NOT_A_BIT, place);
     }
-    nearest_to(take_number(symbols, 0, 52))
+    nearest_time(take_number(symbols, 0, 52))
 }

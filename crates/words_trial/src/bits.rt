@@ -7,7 +7,6 @@ use words::bits::put_number;
 use words::bits::put_signed;
 use words::bits::take_number;
 use words::bits::take_signed;
-use words::refusal::refuse;
 
 const LAST: usize = 18446744073709551615;
 
@@ -49,12 +48,6 @@ pub(crate) fn finding() {
     let bits = [0u8, 1, 1, 0];
     let odd = [0u8, 1, 255, 2];
     let garbage = [255u8; 600];
-    refused(
-        b"refuse(255, last) is that refusal",
-        refuse(255, LAST),
-        255,
-        LAST,
-    );
     expected(
         b"first_not_bit of nothing is 0",
         first_not_bit(&bits[0..0]) == 0,

@@ -2,10 +2,13 @@
 // the known values of time words and check bits, and prints a line for each: what is expected, and whether it is so.
 mod bits;
 mod crc;
+mod refusal;
 mod show;
 mod time;
 
 fn main() {
+    refusal::numbers();
+    refusal::refusing();
     bits::finding();
     bits::taking();
     bits::taking_signed();

@@ -17,10 +17,7 @@ use mir.Syntax.{w64}
 use mir.Val.{SFits, toZ, ofZ}
 use mir.ValLaws.{toZ-ofZ}
 use borrow.Author.Tests.{lt-ltb, le-ltb, ltb-true}
-use Rattle.words.specs.Bits.{firstNotBit, valueOf, bitsOf, signedOf, bitsAt, putAnswer, putBytes}
-use Rattle.words.specs.Refusal.{LENGTH, refusedAt}
-use Rattle.words.specs.declared.refusal.Answer.{Answer}
-use Rattle.words.specs.declared.refusal.Answer.the-variants.{Done}
+use Rattle.words.specs.Bits.{firstNotBit, valueOf, bitsOf, signedOf, bitsAt}
 use Rattle.words.specs.Laws.Digits.{value-snoc, length-bits, bits-snoc}
 use Rattle.words.specs.Laws.Signs.{signed-mag}
 
@@ -125,14 +122,3 @@ pub none-left : (l : List ℕ) (at w n : ℕ) → w ≤ 0 → sets l at (bitsOf 
 unfolding bitsOf
 none-left l at zero n h = refl
 none-left l at (suc w) n h = absurd (omega arith)
-
--- ---- what putting answers and leaves
-
-pub put-refused : (fits : Bool) (r : Answer) (l : List ℕ) (at : ℕ) (bits : List ℕ) → fits ≡ false → r ≡ refusedAt LENGTH 0
-    → (r ≡ putAnswer fits) × (l ≡ putBytes fits l at bits)
-put-refused fits r l at bits e f =
-    (f ∙ ap putAnswer (sym e), ap (λ (t : Bool). putBytes t l at bits) (sym e))
-
-pub put-done : (fits : Bool) (l out : List ℕ) (at : ℕ) (bits : List ℕ) → fits ≡ true → out ≡ sets l at bits
-    → (Done ≡ putAnswer fits) × (out ≡ putBytes fits l at bits)
-put-done fits l out at bits e f = (ap putAnswer (sym e), f ∙ ap (λ (t : Bool). putBytes t l at bits) (sym e))

@@ -1,20 +1,21 @@
 -- What the turns of the loops keep, and what putting check bits leaves.
 -- Assumes nothing.
 use mathlib.Core.Path.{_≡_, refl, sym, ap, ap₂, _∙_}
-use mathlib.Core.Bool.{Bool, true, cond}
+use mathlib.Core.Bool.{Bool, true}
 use mathlib.Core.List.{List, _++_, append-nil}
 use Prim.Native.Nat.{ℕ, suc, _+_, _-_, _^_, _≤_, _<_}
 use native.Mathlib.Numerals.{add-one}
 use native.Mathlib.Omega.{arith}
+use lib.Dec.{leb}
 use lib.ListN.{length, getD, take, drop, replicate, drop-of-length-le}
 use lib.Seq.{drop-cons, sets, sets-eq}
-use borrow.Author.Tests.{le-leb, lt-leb, lt-ltb}
+use borrow.Author.Tests.{le-leb, lt-ltb}
 use Rattle.words.specs.Bits.{bitsOf, fitsNumber, putAnswer, putBytes}
-use Rattle.words.specs.Refusal.{LENGTH, refusedAt, doneIf}
 use Rattle.words.specs.declared.refusal.Answer.{Answer}
 use Rattle.words.specs.Crc.{fed, remainderFrom, remainderOf, checkOf, blockOf, checkAnswer, checkBytes}
 use Rattle.words.specs.Laws.Crc.{remainder-append, check-lt}
 use Rattle.words.specs.Laws.Digits.{length-bits}
+use Rattle.words.specs.Laws.Puts.{done-leaves}
 
 -- ---- bits from a place on
 
@@ -61,13 +62,5 @@ pub check-put : (l : List ℕ) (n : ℕ) (r : Answer) (out : List ℕ) → 24 �
     → (r ≡ checkAnswer l) × (out ≡ checkBytes l)
 check-put l n r out h e f g =
     let fits = check-fits l n h e in
-    let long = le-leb 24 (length l) h in (
-      f ∙ ap putAnswer fits ∙ ap (λ (t : Bool). doneIf t LENGTH 0) (sym long),
-      g ∙ ap (λ (t : Bool). putBytes t l (length l - 24) (bitsOf 24 n)) fits ∙ block-is l n h e
-          ∙ ap (λ (t : Bool). cond t (blockOf (take (length l - 24) l)) l) (sym long),
-    )
-
-pub check-refused : (l : List ℕ) (r : Answer) → length l < 24 → r ≡ refusedAt LENGTH 0 → (r ≡ checkAnswer l) × (l ≡ checkBytes l)
-check-refused l r h f =
-    let short = sym (lt-leb 24 (length l) h) in
-    (f ∙ ap (λ (t : Bool). doneIf t LENGTH 0) short, ap (λ (t : Bool). cond t (blockOf (take (length l - 24) l)) l) short)
+    done-leaves (leb 24 (length l)) r l out (blockOf (take (length l - 24) l)) (le-leb 24 (length l) h) (f ∙ ap putAnswer fits)
+    (g ∙ ap (λ (t : Bool). putBytes t l (length l - 24) (bitsOf 24 n)) fits ∙ block-is l n h e)

@@ -115,3 +115,12 @@ unfolding firstNotBit
 bits-none [] h = refl
 bits-none (b ∷ l) h =
     ap (λ (t : Bool). cond t (suc (firstNotBit l)) 0) (lt-ltb b 2 (first-bit h)) ∙ ap suc (bits-none l (other-bits h))
+
+pub not-bit-le : (l : List ℕ) → firstNotBit l ≤ length l
+unfolding firstNotBit
+not-bit-le [] = omega arith
+not-bit-le (b ∷ l) = go (ltb b 2) (not-bit-le l)
+  where
+    go : (t : Bool) → firstNotBit l ≤ length l → cond t (suc (firstNotBit l)) 0 ≤ suc (length l)
+    go true h = omega arith
+    go false h = omega arith

@@ -3,24 +3,16 @@
 use mathlib.Core.Path.{_≡_, refl, sym, ap, _∙_, subst}
 use mathlib.Core.Bool.{Bool, true, false, cond}
 use mathlib.Core.List.{List}
-use mathlib.Core.Logic.{⊎-elim}
+use mathlib.Core.Logic.{_⊎_, inl, inr, ⊎-elim}
 use Prim.Native.Nat.{ℕ, zero, suc, _+_, _≤_, _<_}
 use native.Mathlib.Nat.{eq-or-lt-of-le}
 use native.Mathlib.Omega.{arith}
 use lib.Dec.{leb}
-use lib.ListN.{length}
-use borrow.Author.Tests.{leb-true, leb-false, eq-eqb, lt-leb}
-use Rattle.words.specs.Bits.{IsBits, firstNotBit}
+use borrow.Author.Tests.{leb-true, leb-false}
 use Rattle.words.specs.Sums.{differing}
 use Rattle.words.specs.Refusal.{TIME, numberOf}
-use Rattle.words.specs.Time.{timeWord, timeIs, noTime, nearestTime, timeRead}
+use Rattle.words.specs.Time.{timeWord, timeIs, noTime, nearestTime}
 use Rattle.words.specs.declared.time.Time.{Time}
-use Rattle.words.specs.Laws.Digits.{bits-none}
-
--- 52 bits are judged by the search alone
-pub read-bits : (s : List ℕ) → length s ≡ 52 → IsBits s → timeRead s ≡ nearestTime 400 0 s
-unfolding timeRead
-read-bits s l b = rw (eq-eqb (length s) 52 l, eq-eqb (firstNotBit s) (length s) (bits-none s b)) refl
 
 -- what is found is within nine, with its number of places
 pub nearest-found : (n t : ℕ) (s : List ℕ) (u d : ℕ) → nearestTime n t s ≡ timeIs u d
@@ -79,12 +71,15 @@ nearest-hit (suc n) t s u h k near only =
         (λ q. q)
         (eq-or-lt-of-le h))
 
--- and where none is, it is refused
-pub nearest-refused : (n t : ℕ) (s : List ℕ) → ((u : ℕ) → u < t + n → 9 < differing s (timeWord u))
-    → nearestTime n t s ≡ noTime TIME 0
+-- there is no third way
+pub nearest-is : (n t : ℕ) (s : List ℕ)
+    → ((u : ℕ) × (d : ℕ) × (nearestTime n t s ≡ timeIs u d)) ⊎ (nearestTime n t s ≡ noTime TIME 0)
 unfolding nearestTime
-nearest-refused zero t s far = refl
-nearest-refused (suc n) t s far =
-    ap (λ (b : Bool). cond b (timeIs t (differing s (timeWord t))) (nearestTime n (suc t) s))
-    (lt-leb (differing s (timeWord t)) 9 (far t (omega arith)))
-    ∙ nearest-refused n (suc t) s (λ u h. far u (omega arith))
+nearest-is zero t s = inr refl
+nearest-is (suc n) t s = go (leb (differing s (timeWord t)) 9) (nearest-is n (suc t) s)
+  where
+    go : (b : Bool) → ((u : ℕ) × (d : ℕ) × (nearestTime n (suc t) s ≡ timeIs u d)) ⊎ (nearestTime n (suc t) s ≡ noTime TIME 0)
+        → ((u : ℕ) × (d : ℕ) × (cond b (timeIs t (differing s (timeWord t))) (nearestTime n (suc t) s) ≡ timeIs u d))
+        ⊎ (cond b (timeIs t (differing s (timeWord t))) (nearestTime n (suc t) s) ≡ noTime TIME 0)
+    go true rest = inl (t, differing s (timeWord t), refl)
+    go false rest = rest

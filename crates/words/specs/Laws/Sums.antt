@@ -30,31 +30,31 @@ add2-right x y = omega arith
 pub add2-assoc : (a b c : ℕ) → add2 (add2 a b) c ≡ add2 a (add2 b c)
 add2-assoc a b c = sym (add2-left (a + b) c) ∙ ap (λ (x : ℕ). x % 2) (omega arith) ∙ add2-right a (b + c)
 
-unlike-bits : (x y : ℕ) → x < 2 → y < 2 → differs x y ≡ add2 x y
-unlike-bits zero zero hx hy = refl
-unlike-bits zero (suc zero) hx hy = refl
-unlike-bits zero (suc (suc y)) hx hy = absurd (omega arith)
-unlike-bits (suc zero) zero hx hy = refl
-unlike-bits (suc zero) (suc zero) hx hy = refl
-unlike-bits (suc zero) (suc (suc y)) hx hy = absurd (omega arith)
-unlike-bits (suc (suc x)) y hx hy = absurd (omega arith)
+differs-bits : (x y : ℕ) → x < 2 → y < 2 → differs x y ≡ add2 x y
+differs-bits zero zero hx hy = refl
+differs-bits zero (suc zero) hx hy = refl
+differs-bits zero (suc (suc y)) hx hy = absurd (omega arith)
+differs-bits (suc zero) zero hx hy = refl
+differs-bits (suc zero) (suc zero) hx hy = refl
+differs-bits (suc zero) (suc (suc y)) hx hy = absurd (omega arith)
+differs-bits (suc (suc x)) y hx hy = absurd (omega arith)
 
-unlike-eq : (x y : ℕ) → x ≡ y → differs x y ≡ 0
-unlike-eq x y e = ap (λ (t : Bool). cond t 0 1) (eq-eqb x y e)
+differs-eq : (x y : ℕ) → x ≡ y → differs x y ≡ 0
+differs-eq x y e = ap (λ (t : Bool). cond t 0 1) (eq-eqb x y e)
 
-unlike-ne : (x y : ℕ) → (x ≡ y → ⊥) → differs x y ≡ 1
-unlike-ne x y e = ap (λ (t : Bool). cond t 0 1) (ne-eqb x y e)
+differs-ne : (x y : ℕ) → (x ≡ y → ⊥) → differs x y ≡ 1
+differs-ne x y e = ap (λ (t : Bool). cond t 0 1) (ne-eqb x y e)
 
-unlike-comm : (x y : ℕ) → differs x y ≡ differs y x
-unlike-comm x y = go (eqb x y) refl
+differs-comm : (x y : ℕ) → differs x y ≡ differs y x
+differs-comm x y = go (eqb x y) refl
   where
     go : (t : Bool) → eqb x y ≡ t → differs x y ≡ differs y x
-    go true e = unlike-eq x y (eqb-true x y e) ∙ sym (unlike-eq y x (sym (eqb-true x y e)))
-    go false e = unlike-ne x y (eqb-false x y e) ∙ sym (unlike-ne y x (λ q. eqb-false x y e (sym q)))
+    go true e = differs-eq x y (eqb-true x y e) ∙ sym (differs-eq y x (sym (eqb-true x y e)))
+    go false e = differs-ne x y (eqb-false x y e) ∙ sym (differs-ne y x (λ q. eqb-false x y e (sym q)))
 
 -- the three sides of a triangle, at one place
-unlike-triangle : (x y z : ℕ) → differs x z ≤ differs x y + differs y z
-unlike-triangle x y z = go (eqb x y) (eqb y z) (eqb x z) refl refl refl
+differs-triangle : (x y z : ℕ) → differs x z ≤ differs x y + differs y z
+differs-triangle x y z = go (eqb x y) (eqb y z) (eqb x z) refl refl refl
   where
     go : (p q r : Bool) → eqb x y ≡ p → eqb y z ≡ q → eqb x z ≡ r → cond r 0 1 ≤ cond p 0 1 + cond q 0 1
     go p q true e f g = zero-le
@@ -100,14 +100,14 @@ differing-weight [] [] e ha hb = refl
 differing-weight [] (y ∷ b) e ha hb = absurd (omega arith)
 differing-weight (x ∷ a) [] e ha hb = absurd (omega arith)
 differing-weight (x ∷ a) (y ∷ b) e ha hb =
-    ap₂ (λ (m n : ℕ). m + n) (unlike-bits x y (first-bit ha) (first-bit hb))
+    ap₂ (λ (m n : ℕ). m + n) (differs-bits x y (first-bit ha) (first-bit hb))
     (differing-weight a b (suc-inj e) (other-bits ha) (other-bits hb))
 
 pub differing-comm : (a b : List ℕ) → differing a b ≡ differing b a
 differing-comm [] [] = refl
 differing-comm [] (y ∷ b) = refl
 differing-comm (x ∷ a) [] = refl
-differing-comm (x ∷ a) (y ∷ b) = ap₂ (λ (m n : ℕ). m + n) (unlike-comm x y) (differing-comm a b)
+differing-comm (x ∷ a) (y ∷ b) = ap₂ (λ (m n : ℕ). m + n) (differs-comm x y) (differing-comm a b)
 
 pub triangle : (a b c : List ℕ) → length a ≡ length b → length b ≡ length c
     → differing a c ≤ differing a b + differing b c
@@ -116,7 +116,7 @@ triangle [] [] (z ∷ c) e f = absurd (omega arith)
 triangle [] (y ∷ b) c e f = absurd (omega arith)
 triangle (x ∷ a) [] c e f = absurd (omega arith)
 triangle (x ∷ a) (y ∷ b) [] e f = absurd (omega arith)
-triangle (x ∷ a) (y ∷ b) (z ∷ c) e f = omega (arith, unlike-triangle x y z, triangle a b c (suc-inj e) (suc-inj f))
+triangle (x ∷ a) (y ∷ b) (z ∷ c) e f = omega (arith, differs-triangle x y z, triangle a b c (suc-inj e) (suc-inj f))
 
 -- lists that differ in no place are equal
 pub differing-none : (a b : List ℕ) → differing a b ≡ 0 → a ≡ b
@@ -129,3 +129,20 @@ differing-none (x ∷ a) (y ∷ b) e =
     go : (t : Bool) → eqb x y ≡ t → _≡_ {A = ℕ} (cond t 0 1) 0 → x ≡ y
     go true e f = eqb-true x y e
     go false e f = absurd (omega arith)
+
+-- a list with flags added differs from it where a flag is set
+pub turned-differ : (a t : List ℕ) → length a ≡ length t → IsBits a → IsBits t → differing (sums a t) a ≡ weight t
+turned-differ [] [] e ha ht = refl
+turned-differ [] (y ∷ t) e ha ht = absurd (omega arith)
+turned-differ (x ∷ a) [] e ha ht = absurd (omega arith)
+turned-differ (x ∷ a) (y ∷ t) e ha ht =
+    ap₂ (λ (m n : ℕ). m + n) (one x y (first-bit ha) (first-bit ht)) (turned-differ a t (suc-inj e) (other-bits ha) (other-bits ht))
+  where
+    one : (x y : ℕ) → x < 2 → y < 2 → differs (add2 x y) x ≡ y
+    one zero zero hx hy = refl
+    one zero (suc zero) hx hy = refl
+    one (suc zero) zero hx hy = refl
+    one (suc zero) (suc zero) hx hy = refl
+    one zero (suc (suc y)) hx hy = absurd (omega arith)
+    one (suc zero) (suc (suc y)) hx hy = absurd (omega arith)
+    one (suc (suc x)) y hx hy = absurd (omega arith)

@@ -7,23 +7,23 @@ use borrow.Author.Needs.{needs}
 use Rattle.words.proofs.bits.fits_number.Statement.{statement}
 use Rattle.words.proofs.bits.fits_number.Tie as tie
 
-is-within-requires : tie.Need-is-within-requires
-is-within-requires c κs = search needs
+is-inside-requires : tie.Need-is-inside-requires
+is-inside-requires c κs = search needs
 
-has-bits-requires : tie.Need-has-bits-requires
-has-bits-requires c κs = search needs
+holds-number-requires : tie.Need-holds-number-requires
+holds-number-requires c κs = search needs
 
 returns : tie.Need-returns
 returns c =
     let args = c .before .before .before .args in
-    and-goes-on (leb (args .at + args .width) (args .count)) (ltb (args .number) (2 ^ args .width)) (c .has-bits .result)
-    (sym (c .before .before .is-within .ensures) ∙ c .before .if1 .taken) (c .has-bits .ensures)
+    and-goes-on (leb (args .at + args .width) (args .count)) (ltb (args .number) (2 ^ args .width)) (c .holds-number .result)
+    (sym (c .before .before .is-inside .ensures) ∙ c .before .if1 .taken) (c .holds-number .ensures)
 
 returns-2 : tie.Need-returns-2
 returns-2 c =
     let args = c .before .before .args in
     and-ends (leb (args .at + args .width) (args .count)) (ltb (args .number) (2 ^ args .width))
-    (sym (c .before .is-within .ensures) ∙ c .if1 .left)
+    (sym (c .before .is-inside .ensures) ∙ c .if1 .left)
 
 pub fits-number-spec : {M : Type 1} → statement M
-fits-number-spec = tie.close (tie.spec is-within-requires has-bits-requires returns returns-2)
+fits-number-spec = tie.close (tie.spec is-inside-requires holds-number-requires returns returns-2)

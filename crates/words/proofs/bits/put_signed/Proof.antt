@@ -1,6 +1,7 @@
 -- `words::bits::put_signed` meets its contract. Assumes nothing.
-use mathlib.Core.Path.{_≡_, sym, ap, _∙_}
+use mathlib.Core.Path.{_≡_, refl, sym, ap, _∙_}
 use mathlib.Core.Bool.{Bool, _&&_, and-eq-true-iff}
+use mathlib.Core.List.{List}
 use Prim.Native.Nat.{ℕ, _+_}
 use lib.IntN.{ℤ}
 use lib.ListN.{length}
@@ -10,7 +11,8 @@ use mir.Syntax.{w64}
 use mir.Val.{toZ, ofZ}
 use mir.ValLaws.{toZ-ofZ}
 use Rattle.words.specs.Bits.{bitsOf, unsignedOf, isInside, holdsSigned, fitsSigned}
-use Rattle.words.proofs.bits.Laws.{put-done, put-refused}
+use Rattle.words.specs.declared.refusal.Answer.the-variants.{Done}
+use Rattle.words.specs.Laws.Puts.{refused-leaves, done-leaves}
 use borrow.Author.Needs.{needs}
 use Rattle.words.proofs.bits.put_signed.Statement.{statement}
 use Rattle.words.proofs.bits.put_signed.Tie as tie
@@ -21,6 +23,9 @@ same c = toZ-ofZ w64 (c .args .number) (c .fits .number)
 
 abbrev fitting : tie.Start → Bool
 fitting c = fitsSigned (c .args .bytes .now) (c .args .at) (c .args .width) (c .args .number)
+
+abbrev putting : tie.Start → List ℕ
+putting c = sets (c .args .bytes .now) (c .args .at) (bitsOf (c .args .width) (unsignedOf (c .args .width) (c .args .number)))
 
 tested : (c : tie.After-fits-signed) → c .fits-signed .result ≡ fitting (c .before .before)
 tested c =
@@ -52,9 +57,9 @@ returns : tie.Need-returns
 returns c =
     let start = c .before .before .before .before .before .before .before .before in
     let args = start .args in
-    put-done (fitting start) (args .bytes .now) (c .before .before .put-bits .last .0)
-    (args .at) (bitsOf (args .width) (unsignedOf (args .width) (args .number)))
+    done-leaves (fitting start) Done (args .bytes .now) (c .before .before .put-bits .last .0) (putting start)
     (sym (tested (c .before .before .before .before .before .before)) ∙ c .before .before .before .before .before .if1 .taken)
+    refl
     (c .before .before .put-bits .ensures
     ∙ ap (λ (n : ℕ). sets (args .bytes .now) (args .at) (bitsOf (args .width) n))
     (c .before .before .before .unsigned-of .ensures ∙ ap (unsignedOf (args .width)) (same start)))
@@ -64,9 +69,8 @@ refuse-requires c κs = search needs
 
 returns-2 : tie.Need-returns-2
 returns-2 c =
-    let args = c .before .before .before .before .args in
-    put-refused (fitting (c .before .before .before .before)) (c .refuse .result) (args .bytes .now)
-    (args .at) (bitsOf (args .width) (unsignedOf (args .width) (args .number)))
+    let start = c .before .before .before .before in
+    refused-leaves (fitting start) (c .refuse .result) (start .args .bytes .now) (putting start)
     (sym (tested (c .before .before)) ∙ c .before .if1 .left) (c .refuse .ensures)
 
 pub put-signed-spec : {M : Type 1} → statement M

@@ -15,8 +15,8 @@ use borrow.Author.Needs.{needs}
 use Rattle.words.proofs.bits.signed_of.Statement.{statement}
 use Rattle.words.proofs.bits.signed_of.Tie as tie
 
-number-of-requires : tie.Need-number-of-requires
-number-of-requires c κs = search needs
+value-of-requires : tie.Need-value-of-requires
+value-of-requires c κs = search needs
 
 returns : tie.Need-returns
 returns c = signed-none (c .before .before .before .args .bits .now) (c .if1 .taken)
@@ -33,7 +33,7 @@ largest-requires c κs = search needs
 sub-below-zero : tie.Need-sub-below-zero
 sub-below-zero c =
     let start = c .before .before .before .before .before .before .before in
-    omega (arith, value-lt (start .args .bits .now), c .before .before .before .before .before .number-of .ensures, c .largest .ensures)
+    omega (arith, value-lt (start .args .bits .now), c .before .before .before .before .before .value-of .ensures, c .largest .ensures)
 
 below-zero-requires : tie.Need-below-zero-requires
 below-zero-requires c κs =
@@ -42,7 +42,7 @@ below-zero-requires c κs =
     omega (
       arith,
       rw (signed-one l one) at (signed-fits l (c .before .before .before .before .before .before .before .pre)),
-      c .before .before .before .before .before .number-of .ensures,
+      c .before .before .before .before .before .value-of .ensures,
       c .largest .ensures,
     )
 
@@ -53,16 +53,16 @@ not-below-zero-requires c κs =
     omega (
       arith,
       rw (signed-zero l not-one) at (signed-fits l (c .before .before .before .before .before .before .pre)),
-      c .before .before .before .before .number-of .ensures,
+      c .before .before .before .before .value-of .ensures,
     )
 
 returns-2 : tie.Need-returns-2
 returns-2 c =
     let l = c .before .before .before .before .before .before .before .before .args .bits .now in
     let one : getD l 0 0 % 2 ≡ 1 = sym (c .before .before .before .low-bit .ensures) ∙ c .before .before .if2 .taken in
-    let rest : c .before .largest .result - c .before .before .before .before .before .before .number-of .result
+    let rest : c .before .largest .result - c .before .before .before .before .before .before .value-of .result
     ≡ 2 ^ length l - suc (valueOf l) =
-    omega (arith, c .before .before .before .before .before .before .number-of .ensures, c .before .largest .ensures) in
+    omega (arith, c .before .before .before .before .before .before .value-of .ensures, c .before .largest .ensures) in
     toZ-ofZ w64 (c .below-zero .result) (sfits-of (c .below-zero .ok)) ∙ c .below-zero .ensures
     ∙ ap negsuc rest ∙ sym (signed-one l one)
 
@@ -71,13 +71,13 @@ returns-3 c =
     let l = c .before .before .before .before .before .before .before .args .bits .now in
     let not-one : getD l 0 0 % 2 ≡ 1 → ⊥ = λ e. c .before .if2 .left (c .before .before .low-bit .ensures ∙ e) in
     toZ-ofZ w64 (c .not-below-zero .result) (sfits-of (c .not-below-zero .ok)) ∙ c .not-below-zero .ensures
-    ∙ ap pos (c .before .before .before .before .before .number-of .ensures) ∙ sym (signed-zero l not-one)
+    ∙ ap pos (c .before .before .before .before .before .value-of .ensures) ∙ sym (signed-zero l not-one)
 
 pub signed-of-spec : {M : Type 1} → statement M
 signed-of-spec =
     tie.close
     (tie.spec
-    number-of-requires
+    value-of-requires
     returns
     shared-slice-read-low-bit
     low-bit-requires

@@ -6,16 +6,16 @@ use borrow.Author.Needs.{needs}
 use Rattle.words.proofs.bits.take_number.Statement.{statement}
 use Rattle.words.proofs.bits.take_number.Tie as tie
 
-part-at-requires : tie.Need-part-at-requires
-part-at-requires c κs = search needs
+bits-at-requires : tie.Need-bits-at-requires
+bits-at-requires c κs = search needs
 
-number-of-requires : tie.Need-number-of-requires
-number-of-requires c κs =
+value-of-requires : tie.Need-value-of-requires
+value-of-requires c κs =
     let args = c .before .before .args in
-    rw (c .part-at .ensures) (length-part (args .bytes .now) (args .at) (args .width))
+    rw (c .bits-at .ensures) (length-part (args .bytes .now) (args .at) (args .width))
 
 returns : tie.Need-returns
-returns c = c .number-of .ensures ∙ ap valueOf (c .before .part-at .ensures)
+returns c = c .value-of .ensures ∙ ap valueOf (c .before .bits-at .ensures)
 
 pub take-number-spec : {M : Type 1} → statement M
-take-number-spec = tie.close (tie.spec part-at-requires number-of-requires returns)
+take-number-spec = tie.close (tie.spec bits-at-requires value-of-requires returns)

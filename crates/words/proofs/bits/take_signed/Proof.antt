@@ -9,18 +9,18 @@ use borrow.Author.Needs.{needs}
 use Rattle.words.proofs.bits.take_signed.Statement.{statement}
 use Rattle.words.proofs.bits.take_signed.Tie as tie
 
-part-at-requires : tie.Need-part-at-requires
-part-at-requires c κs = search needs
+bits-at-requires : tie.Need-bits-at-requires
+bits-at-requires c κs = search needs
 
 signed-of-requires : tie.Need-signed-of-requires
 signed-of-requires c κs =
     let args = c .before .before .args in
-    rw (c .part-at .ensures) (length-part (args .bytes .now) (args .at) (args .width))
+    rw (c .bits-at .ensures) (length-part (args .bytes .now) (args .at) (args .width))
 
 returns : tie.Need-returns
 returns c =
     toZ-ofZ w64 (c .signed-of .result) (sfits-of (c .signed-of .ok)) ∙ c .signed-of .ensures
-    ∙ ap signedOf (c .before .part-at .ensures)
+    ∙ ap signedOf (c .before .bits-at .ensures)
 
 pub take-signed-spec : {M : Type 1} → statement M
-take-signed-spec = tie.close (tie.spec part-at-requires signed-of-requires returns)
+take-signed-spec = tie.close (tie.spec bits-at-requires signed-of-requires returns)

@@ -2,9 +2,13 @@
 use mathlib.Core.Path.{sym}
 use Prim.Native.Nat.{_-_}
 use native.Mathlib.Omega.{arith}
-use lib.ListN.{length}
+use lib.Dec.{leb}
+use lib.ListN.{length, take}
 use lib.Seq.{length-take-le}
-use Rattle.words.proofs.crc.Laws.{check-put, check-refused}
+use borrow.Author.Tests.{lt-leb}
+use Rattle.words.specs.Crc.{blockOf}
+use Rattle.words.specs.Laws.Puts.{refused-leaves}
+use Rattle.words.proofs.crc.Laws.{check-put}
 use borrow.Author.Needs.{needs}
 use Rattle.words.proofs.crc.put_check.Statement.{statement}
 use Rattle.words.proofs.crc.put_check.Tie as tie
@@ -13,7 +17,10 @@ refuse-requires : tie.Need-refuse-requires
 refuse-requires c κs = search needs
 
 returns : tie.Need-returns
-returns c = check-refused (c .before .before .before .args .block .now) (c .refuse .result) (c .before .if1 .taken) (c .refuse .ensures)
+returns c =
+    let l = c .before .before .before .args .block .now in
+    refused-leaves (leb 24 (length l)) (c .refuse .result) l (blockOf (take (length l - 24) l)) (lt-leb 24 (length l) (c .before .if1 .taken))
+    (c .refuse .ensures)
 
 sub-count : tie.Need-sub-count
 sub-count c = search needs

@@ -8,7 +8,7 @@ use Rattle.words.specs.Refusal.{NOT-A-BIT}
 use Rattle.words.specs.Time.{noTime, nearestTime, timeRead}
 use borrow.Author.Needs.{needs}
 use Rattle.words.specs.Laws.Digits.{none-not-bit}
-use Rattle.words.specs.Laws.Nearest.{read-bits}
+use Rattle.words.specs.Laws.Judged.{read-bits}
 use Rattle.words.proofs.time.Laws.{packed, unpacked}
 use Rattle.words.proofs.time.read_time.Statement.{statement}
 use Rattle.words.proofs.time.read_time.Tie as tie
@@ -39,8 +39,8 @@ returns-2 c =
 take-number-requires : tie.Need-take-number-requires
 take-number-requires c κs = search needs
 
-nearest-to-requires : tie.Need-nearest-to-requires
-nearest-to-requires c κs =
+nearest-time-requires : tie.Need-nearest-time-requires
+nearest-time-requires c κs =
     let l = c .before .before .before .before .before .args .symbols .now in
     omega (arith, c .take-number .ensures, packed l (c .before .before .before .if1 .left) .1)
 
@@ -48,10 +48,10 @@ returns-3 : tie.Need-returns-3
 returns-3 c =
     let l = c .before .before .before .before .before .before .args .symbols .now in
     let count = c .before .before .before .before .if1 .left in
-    let are = none-not-bit l (sym (c .before .before .before .first-not-bit .ensures) ∙ c .before .before .if2 .left) in
-    c .nearest-to .ensures
-    ∙ ap (nearestTime 400 0) (ap (bitsOf 52) (c .before .take-number .ensures ∙ packed l count .0) ∙ unpacked l count are)
-    ∙ sym (read-bits l count are)
+    let whole = sym (c .before .before .before .first-not-bit .ensures) ∙ c .before .before .if2 .left in
+    c .nearest-time .ensures
+    ∙ ap (nearestTime 400 0) (ap (bitsOf 52) (c .before .take-number .ensures ∙ packed l count .0) ∙ unpacked l count (none-not-bit l whole))
+    ∙ sym (read-bits l count whole)
 
 pub read-time-spec : {M : Type 1} → statement M
 read-time-spec =
@@ -63,5 +63,5 @@ read-time-spec =
     no-time-requires-2
     returns-2
     take-number-requires
-    nearest-to-requires
+    nearest-time-requires
     returns-3)

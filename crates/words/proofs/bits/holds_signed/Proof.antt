@@ -1,4 +1,4 @@
--- `words::bits::has_signed_bits` meets its contract. Assumes nothing.
+-- `words::bits::holds_signed` meets its contract. Assumes nothing.
 use mathlib.Core.Path.{refl, ap, _∙_}
 use Prim.Native.Nat.{ℕ, _-_, _^_}
 use native.Mathlib.Omega.{arith}
@@ -8,8 +8,8 @@ use mir.Syntax.{w64}
 use mir.ValLaws.{toZ-ofZ}
 use borrow.Author.Tests.{le-leb, lt-leb}
 use borrow.Author.Needs.{needs}
-use Rattle.words.proofs.bits.has_signed_bits.Statement.{statement}
-use Rattle.words.proofs.bits.has_signed_bits.Tie as tie
+use Rattle.words.proofs.bits.holds_signed.Statement.{statement}
+use Rattle.words.proofs.bits.holds_signed.Tie as tie
 
 returns : tie.Need-returns
 returns c = rw (lt-leb 1 (c .before .args .width) (c .if1 .taken)) refl
@@ -22,16 +22,16 @@ returns-2 c =
 magnitude-requires : tie.Need-magnitude-requires
 magnitude-requires c κs = search needs
 
-has-bits-requires : tie.Need-has-bits-requires
-has-bits-requires c κs = search needs
+holds-number-requires : tie.Need-holds-number-requires
+holds-number-requires c κs = search needs
 
 returns-3 : tie.Need-returns-3
 returns-3 c =
     let start = c .before .before .before .before in
     let width = start .args .width in
     rw (le-leb 1 width (omega arith), le-leb width 64 (omega arith))
-    (c .has-bits .ensures ∙ ap (λ (n : ℕ). ltb n (2 ^ (width - 1))) (c .before .magnitude .ensures ∙ ap mag (toZ-ofZ w64 (start .args .z) (start .fits .z))))
+    (c .holds-number .ensures ∙ ap (λ (n : ℕ). ltb n (2 ^ (width - 1))) (c .before .magnitude .ensures ∙ ap mag (toZ-ofZ w64 (start .args .z) (start .fits .z))))
 
-pub has-signed-bits-spec : {M : Type 1} → statement M
-has-signed-bits-spec =
-    tie.close (tie.spec returns returns-2 magnitude-requires has-bits-requires returns-3)
+pub holds-signed-spec : {M : Type 1} → statement M
+holds-signed-spec =
+    tie.close (tie.spec returns returns-2 magnitude-requires holds-number-requires returns-3)

@@ -1,4 +1,4 @@
--- `words::bits::has_bits` meets its contract. Assumes nothing.
+-- `words::bits::holds_number` meets its contract. Assumes nothing.
 use mathlib.Core.Path.{_≡_, sym, ap}
 use Prim.Native.Nat.{ℕ, _*_, _/_, _^_, _<_}
 use native.Mathlib.Nat.{div-eq-of-lt, mod-lt}
@@ -8,8 +8,8 @@ use lib.Pow.{pow-mono, pow-pos, split}
 use borrow.Author.Tests.{lt-ltb, ltb-true, eq-eqb, eqb-true}
 use Rattle.words.specs.Laws.Tests.{same-test}
 use borrow.Author.Needs.{needs}
-use Rattle.words.proofs.bits.has_bits.Statement.{statement}
-use Rattle.words.proofs.bits.has_bits.Tie as tie
+use Rattle.words.proofs.bits.holds_number.Statement.{statement}
+use Rattle.words.proofs.bits.holds_number.Tie as tie
 
 shr-result : tie.Need-shr-result
 shr-result c = search needs
@@ -30,5 +30,5 @@ returns-2 c =
     small : (n : ℕ) (w : ℕ) → n / 2 ^ w ≡ 0 → n < 2 ^ w
     small n w e = omega (arith, split n w, e, mod-lt n (pow-pos w), ap (λ (q : ℕ). q * 2 ^ w) e)
 
-pub has-bits-spec : {M : Type 1} → statement M
-has-bits-spec = tie.close (tie.spec shr-result returns returns-2)
+pub holds-number-spec : {M : Type 1} → statement M
+holds-number-spec = tie.close (tie.spec shr-result returns returns-2)

@@ -1,12 +1,12 @@
--- `words::bits::is_within` meets its contract. Assumes nothing.
+-- `words::bits::is_inside` meets its contract. Assumes nothing.
 use mathlib.Core.Path.{sym}
 use Prim.Native.Nat.{_+_, _-_}
 use native.Mathlib.Omega.{arith}
 use lib.Dec.{leb}
 use borrow.Author.Tests.{lt-leb, le-leb, leb-true}
 use Rattle.words.specs.Laws.Tests.{same-test}
-use Rattle.words.proofs.bits.is_within.Statement.{statement}
-use Rattle.words.proofs.bits.is_within.Tie as tie
+use Rattle.words.proofs.bits.is_inside.Statement.{statement}
+use Rattle.words.proofs.bits.is_inside.Tie as tie
 
 returns : tie.Need-returns
 returns c = sym (lt-leb (c .before .args .at + c .before .args .width) (c .before .args .count) (omega arith))
@@ -18,5 +18,5 @@ returns-2 c =
     (λ h. le-leb (args .at + args .width) (args .count) (omega (arith, leb-true (args .width) (args .count - args .at) h)))
     (λ h. le-leb (args .width) (args .count - args .at) (omega (arith, leb-true (args .at + args .width) (args .count) h)))
 
-pub is-within-spec : {M : Type 1} → statement M
-is-within-spec = tie.close (tie.spec returns returns-2)
+pub is-inside-spec : {M : Type 1} → statement M
+is-inside-spec = tie.close (tie.spec returns returns-2)

@@ -1,11 +1,11 @@
--- `words::bits::part_at` meets its contract. Assumes nothing.
+-- `words::bits::bits_at` meets its contract. Assumes nothing.
 use mathlib.Core.Path.{ap, _∙_}
 use Prim.Native.Nat.{ℕ, _-_, min}
 use lib.ListN.{length}
 use Rattle.words.proofs.bits.Laws.{part-is}
 use borrow.Author.Needs.{needs}
-use Rattle.words.proofs.bits.part_at.Statement.{statement}
-use Rattle.words.proofs.bits.part_at.Tie as tie
+use Rattle.words.proofs.bits.bits_at.Statement.{statement}
+use Rattle.words.proofs.bits.bits_at.Tie as tie
 
 least-requires : tie.Need-least-requires
 least-requires c κs = search needs
@@ -39,8 +39,8 @@ returns c =
     (c .before .least3 .ensures
     ∙ ap (λ (n : ℕ). min n (length (args .bytes .now) - c .before .before .before .least .result)) (c .before .before .least2 .ensures))
 
-pub part-at-spec : {M : Type 1} → statement M
-part-at-spec =
+pub bits-at-spec : {M : Type 1} → statement M
+bits-at-spec =
     tie.close
     (tie.spec
     least-requires

@@ -1,4 +1,4 @@
--- `words::time::nearest_to` meets its contract. The invariant: the word is that of the time, and the search from here is the whole search.
+-- `words::time::nearest_time` meets its contract. The invariant: the word is that of the time, and the search from here is the whole search.
 -- Assumes nothing.
 use mathlib.Core.Path.{_≡_, refl, sym, ap, ap₂, _∙_}
 use Prim.Native.Nat.{ℕ, _+_, _-_, _≤_}
@@ -8,8 +8,8 @@ use Rattle.words.specs.Bits.{valueOf, bitsOf}
 use Rattle.words.specs.Time.{timeWord, timeIs, nearestTime}
 use Rattle.words.proofs.time.Laws.{packed-distance, packed-next, nearest-here, nearest-on, nearest-end, zero-packed}
 use borrow.Author.Needs.{needs}
-use Rattle.words.proofs.time.nearest_to.Statement.{statement}
-use Rattle.words.proofs.time.nearest_to.Tie as tie
+use Rattle.words.proofs.time.nearest_time.Statement.{statement}
+use Rattle.words.proofs.time.nearest_time.Tie as tie
 
 abbrev Inv-loop : tie.InvT-loop
 Inv-loop symbols word₀ toi₀ word toi =
@@ -59,8 +59,8 @@ returns-2 c =
     c .no-time .ensures
     ∙ sym (nearest-end (bitsOf 52 (c .before .before .before .args .symbols)) (loop .toi) (c .before .loop-test .left)) ∙ loop .inv .2
 
-pub nearest-to-spec : {M : Type 1} → statement M
-nearest-to-spec =
+pub nearest-time-spec : {M : Type 1} → statement M
+nearest-time-spec =
     tie.close
     (tie.spec
     Inv-loop

@@ -1,4 +1,4 @@
--- `words::bits::number_of` meets its contract. The invariant: the number of the bits passed, which is below 2 to their count.
+-- `words::bits::value_of` meets its contract. The invariant: the number of the bits passed, which is below 2 to their count.
 -- Assumes nothing.
 use mathlib.Core.Path.{_≡_, refl, ap, _∙_}
 use Prim.Native.Nat.{_+_, _-_, _*_, _%_, _^_, _≤_, _<_}
@@ -11,8 +11,8 @@ use lib.Seq.{take-all}
 use Rattle.words.specs.Bits.{valueOf}
 use Rattle.words.proofs.bits.Laws.{value-more}
 use borrow.Author.Needs.{needs}
-use Rattle.words.proofs.bits.number_of.Statement.{statement}
-use Rattle.words.proofs.bits.number_of.Tie as tie
+use Rattle.words.proofs.bits.value_of.Statement.{statement}
+use Rattle.words.proofs.bits.value_of.Tie as tie
 
 abbrev Inv-loop : tie.InvT-loop
 Inv-loop bits number₀ i₀ number i = (i ≤ length bits) × (number ≡ valueOf (take i bits)) × (number < 2 ^ i)
@@ -54,8 +54,8 @@ returns c =
     let l = c .before .before .before .args .bits .now in
     c .before .loop .inv .1 ∙ ap valueOf (take-all (c .before .loop .i) l (c .loop-test .left))
 
-pub number-of-spec : {M : Type 1} → statement M
-number-of-spec =
+pub value-of-spec : {M : Type 1} → statement M
+value-of-spec =
     tie.close
     (tie.spec
     Inv-loop
