@@ -9,7 +9,7 @@ use lib.IntN.{ℤ, pos, negsuc, _-ℤ_}
 use lib.ListN.{length, getD, take, drop}
 use lib.Seq.{sets}
 use lib.Signed.{mag}
-use Rattle.words.specs.Refusal.{LENGTH, doneIf}
+use Rattle.words.specs.Refusal.{LENGTH, doneIf, leftIf}
 use Rattle.words.specs.declared.refusal.Answer.{Answer}
 
 -- every byte is 0 or 1
@@ -66,7 +66,7 @@ putAnswer fits = doneIf fits LENGTH 0
 
 -- the bytes then: the bits from `at` on, and the others as they were; on a refusal all as they were
 abbrev pub putBytes : Bool → List ℕ → ℕ → List ℕ → List ℕ
-putBytes fits l at bits = cond fits (sets l at bits) l
+putBytes fits l at bits = leftIf fits (sets l at bits) l
 
 -- putting the number n: the answer, and the bytes then
 abbrev pub numberAnswer : List ℕ → ℕ → ℕ → ℕ → Answer

@@ -2,13 +2,13 @@
 -- A polynomial over the field of two elements is a number: the digit of 2 ^ k is the coefficient of x^k.
 -- Assumes nothing.
 use mathlib.Core.Path.{_≡_}
-use mathlib.Core.Bool.{cond}
 use mathlib.Core.List.{List, [], _∷_, _++_}
 use Prim.Native.Nat.{ℕ, _+_, _-_, _*_, _/_, _%_, _^_}
 use lib.Bits.{bitXor}
 use lib.Dec.{leb}
 use lib.ListN.{length, replicate, take}
 use Rattle.words.specs.Bits.{IsBits, bitsOf, putAnswer}
+use Rattle.words.specs.Refusal.{leftIf}
 use Rattle.words.specs.declared.refusal.Answer.{Answer}
 
 -- x^24 + x^23 + x^18 + x^17 + x^14 + x^11 + x^10 + x^7 + x^6 + x^5 + x^4 + x^3 + x + 1
@@ -51,7 +51,7 @@ abbrev pub checkAnswer : List ℕ → Answer
 checkAnswer l = putAnswer (leb 24 (length l))
 
 abbrev pub checkBytes : List ℕ → List ℕ
-checkBytes l = cond (leb 24 (length l)) (blockOf (take (length l - 24) l)) l
+checkBytes l = leftIf (leb 24 (length l)) (blockOf (take (length l - 24) l)) l
 
 -- two blocks of one length, of bits, both right
 pub record BothRight (a b : List ℕ) : Type 0 where

@@ -1,6 +1,7 @@
 -- What a refusal is: the table "Numbers given on refusal" of document 01.
 -- Assumes nothing.
-use mathlib.Core.Bool.{Bool, cond}
+use mathlib.Core.Bool.{Bool, true, false, cond}
+use mathlib.Core.List.{List}
 use Prim.Native.Nat.{ℕ}
 use Rattle.words.specs.declared.refusal.Answer.{Answer}
 use Rattle.words.specs.declared.refusal.Answer.the-variants.{Done, Refused}
@@ -76,6 +77,11 @@ refusedAt number place = Refused (record { number = number; place = place })
 -- done where the test holds, and else the refusal with this number, at this place
 abbrev pub doneIf : Bool → ℕ → ℕ → Answer
 doneIf test number place = cond test Done (refusedAt number place)
+
+-- what is then left in lent bytes: the new ones where the test holds, and else the bytes as they were
+abbrev pub leftIf : Bool → List ℕ → List ℕ → List ℕ
+leftIf true new l = new
+leftIf false new l = l
 
 -- the table's number of an answer, 0 where nothing was refused
 abbrev pub numberOf : Answer → ℕ

@@ -8,7 +8,7 @@ use lib.Dec.{leb, eqb}
 use lib.ListN.{length, getD, drop}
 use Rattle.words.specs.Bits.{bitsOf, firstNotBit}
 use Rattle.words.specs.Sums.{add2, differing}
-use Rattle.words.specs.Refusal.{LENGTH, NOT-A-BIT, TIME, refusedAt, doneIf}
+use Rattle.words.specs.Refusal.{LENGTH, NOT-A-BIT, TIME, refusedAt, doneIf, leftIf}
 use Rattle.words.specs.declared.refusal.Answer.{Answer}
 use Rattle.words.specs.declared.refusal.Answer.the-variants.{Done}
 use Rattle.words.specs.declared.time.Time.{Time}
@@ -43,7 +43,7 @@ abbrev pub timeAnswer : List ℕ → ℕ → Answer
 timeAnswer out toi = cond (eqb (length out) 52) (doneIf (leb toi 399) TIME 0) (refusedAt LENGTH 0)
 
 abbrev pub timeBytes : List ℕ → ℕ → List ℕ
-timeBytes out toi = cond (eqb (length out) 52 && leb toi 399) (timeWord toi) out
+timeBytes out toi = leftIf (eqb (length out) 52 && leb toi 399) (timeWord toi) out
 
 -- a time from 0 to 399 whose word differs from the symbols in so many places, at most nine
 pub record IsTime (s : List ℕ) (toi places : ℕ) : Type 0 where

@@ -10,7 +10,7 @@ use lib.ListN.{length, take}
 use lib.Seq.{sets}
 use Rattle.words.specs.Bits.{bitsOf, unsignedOf, fitsNumber, fitsSigned, putAnswer, numberAnswer, numberBytes, signedAnswer, signedBytes}
 use Rattle.words.specs.Crc.{blockOf, checkAnswer, checkBytes}
-use Rattle.words.specs.Refusal.{LENGTH, TIME, refusedAt, doneIf, numberOf}
+use Rattle.words.specs.Refusal.{LENGTH, TIME, refusedAt, doneIf, leftIf, numberOf}
 use Rattle.words.specs.Time.{timeWord, timeAnswer, timeBytes}
 use Rattle.words.specs.declared.refusal.Answer.{Answer}
 
@@ -18,7 +18,7 @@ use Rattle.words.specs.declared.refusal.Answer.{Answer}
 abbrev pub Refuses : Answer → Type 0
 Refuses a = numberOf a ≡ 0 → ⊥
 
-kept : (fits : Bool) (l new : List ℕ) → Refuses (putAnswer fits) → cond fits new l ≡ l
+kept : (fits : Bool) (l new : List ℕ) → Refuses (putAnswer fits) → leftIf fits new l ≡ l
 kept true l new h = absurd (h refl)
 kept false l new h = refl
 
@@ -38,7 +38,7 @@ put-check-unchanged l h = kept (leb 24 (length l)) l (blockOf (take (length l - 
 pub write-time-unchanged : (l : List ℕ) (toi : ℕ) → Refuses (timeAnswer l toi) → timeBytes l toi ≡ l
 write-time-unchanged l toi h = go (eqb (length l) 52) (leb toi 399) h
   where
-    go : (long used : Bool) → Refuses (cond long (doneIf used TIME 0) (refusedAt LENGTH 0)) → cond (long && used) (timeWord toi) l ≡ l
+    go : (long used : Bool) → Refuses (cond long (doneIf used TIME 0) (refusedAt LENGTH 0)) → leftIf (long && used) (timeWord toi) l ≡ l
     go true true h = absurd (h refl)
     go true false h = refl
     go false used h = refl

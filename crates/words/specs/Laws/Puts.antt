@@ -1,7 +1,7 @@
 -- Bytes into which bits were put: the bits stand there, and the others stay; and what a test has answered and left.
 -- Assumes nothing.
 use mathlib.Core.Path.{_≡_, refl, sym, ap, _∙_}
-use mathlib.Core.Bool.{Bool, true, false, cond}
+use mathlib.Core.Bool.{Bool, true, false}
 use mathlib.Core.List.{List, [], _∷_, _++_, append-assoc}
 use mathlib.Core.Logic.{_⊎_, inl, inr, ⊎-elim}
 use Prim.Native.Nat.{ℕ, suc, _+_, _≤_, _<_}
@@ -10,7 +10,7 @@ use native.Mathlib.Omega.{arith}
 use lib.ListN.{length, getD, take, drop, set, length-drop, take-append-drop}
 use lib.Seq.{sets, sets-eq, length-take-le, take-at, take-add, drop-at, getD-set-other}
 use Rattle.words.specs.Bits.{bitsOf, bitsAt, putAnswer, putBytes}
-use Rattle.words.specs.Refusal.{LENGTH, refusedAt}
+use Rattle.words.specs.Refusal.{LENGTH, refusedAt, leftIf}
 use Rattle.words.specs.declared.refusal.Answer.{Answer}
 use Rattle.words.specs.declared.refusal.Answer.the-variants.{Done}
 use Rattle.words.specs.Laws.Digits.{length-bits}
@@ -52,10 +52,10 @@ sets-same l at w h =
 
 -- where it fails, the refusal is answered and the bytes stay
 pub refused-leaves : (fits : Bool) (r : Answer) (l new : List ℕ) → fits ≡ false → r ≡ refusedAt LENGTH 0
-    → (r ≡ putAnswer fits) × (l ≡ cond fits new l)
-refused-leaves fits r l new e f = (f ∙ ap putAnswer (sym e), ap (λ (t : Bool). cond t new l) (sym e))
+    → (r ≡ putAnswer fits) × (l ≡ leftIf fits new l)
+refused-leaves fits r l new e f = (f ∙ ap putAnswer (sym e), ap (λ (t : Bool). leftIf t new l) (sym e))
 
 -- where it holds, the new bytes are left
 pub done-leaves : (fits : Bool) (r : Answer) (l out new : List ℕ) → fits ≡ true → r ≡ Done → out ≡ new
-    → (r ≡ putAnswer fits) × (out ≡ cond fits new l)
-done-leaves fits r l out new e f g = (f ∙ ap putAnswer (sym e), g ∙ ap (λ (t : Bool). cond t new l) (sym e))
+    → (r ≡ putAnswer fits) × (out ≡ leftIf fits new l)
+done-leaves fits r l out new e f g = (f ∙ ap putAnswer (sym e), g ∙ ap (λ (t : Bool). leftIf t new l) (sym e))
