@@ -114,6 +114,11 @@ unfolding t2 t3 ofSheets coordinates rowSum added solved phi
 phi-is-one Two = refl
 phi-is-one Three = refl
 
+-- No subframe has more than 600 equations.
+pub at-most-600 : (s : Subframe) → matrixOf s .equations ≤ 600
+at-most-600 Two = lit≤ tt
+at-most-600 Three = lit≤ tt
+
 -- Both matrices are proper.
 pub proper : (s : Subframe) → IsProper (matrixOf s)
 proper s = record { some = some s; within = all-inside s; t-listed = t-by-columns s; phi-one = phi-is-one s }

@@ -1,0 +1,8 @@
+-- The laws that the proofs and theorems of `parity` rest on.
+pub mod Rows
+pub mod Substitution
+pub mod Scan
+pub mod Parts
+pub mod Codewords
+pub mod Linear
+pub mod Passed

@@ -1,0 +1,3 @@
+// The parity equations of a subframe, its parity symbols, and the order in which the symbols leave.
+pub mod equations;
+pub mod fill;
