@@ -8,12 +8,13 @@ use Prim.Native.Nat.{ℕ, zero, suc, _+_, _%_, _≤_}
 use lib.Dec.{eqb, ltb}
 use lib.ListN.{length, take, drop}
 use Rattle.words.specs.Bits.{firstNotBit}
-use Rattle.words.specs.Refusal.{LENGTH, NOT-A-BIT, EQUATION-2, EQUATION-3, refusedAt, doneIf}
+use Rattle.words.specs.Refusal.{EQUATION-2, EQUATION-3, doneIf}
 use Rattle.words.specs.declared.refusal.Answer.{Answer}
 use Rattle.tables.specs.Coordinates.{rowSum}
 use Rattle.tables.specs.Matrix.{Matrix, matrixOf}
 use Rattle.tables.specs.declared.matrix.Subframe.{Subframe}
 use Rattle.tables.specs.declared.matrix.Subframe.the-variants.{Two, Three}
+use Rattle.parity.specs.Lent.{judged}
 
 -- the parts of a block: the data symbols, then the one symbol p1, then p2
 abbrev pub dataOf : Matrix → List ℕ → List ℕ
@@ -61,8 +62,5 @@ isBlock M count = eqb count (M .equations + M .equations)
 -- judging a block: 1, then 2, then the first equation that isn't met
 abbrev pub metAnswer : Subframe → List ℕ → Answer
 metAnswer s x =
-    cond (isBlock (matrixOf s) (length x))
-    (cond (eqb (firstNotBit x) (length x))
+    judged (isBlock (matrixOf s) (length x)) (eqb (firstNotBit x) (length x)) (firstNotBit x)
     (doneIf (eqb (firstUnmet (matrixOf s) x) 0) (equationNumber s) (firstUnmet (matrixOf s) x))
-    (refusedAt NOT-A-BIT (firstNotBit x)))
-    (refusedAt LENGTH 0)

@@ -2,18 +2,20 @@
 -- φ = E T⁻¹ B + D is 1.
 -- Assumes nothing.
 use mathlib.Core.Path.{_≡_}
-use mathlib.Core.Bool.{Bool, cond, _&&_}
+use mathlib.Core.Bool.{_&&_}
 use mathlib.Core.List.{List, [], _∷_, _++_}
 use Prim.Native.Nat.{ℕ, _+_, _-_, _%_}
 use lib.Dec.{eqb}
-use lib.ListN.{length, take}
+use lib.ListN.{length}
 use Rattle.words.specs.Bits.{IsBits, firstNotBit}
-use Rattle.words.specs.Refusal.{LENGTH, NOT-A-BIT, refusedAt, doneIf, leftIf}
+use Rattle.words.specs.Refusal.{leftIf}
 use Rattle.words.specs.declared.refusal.Answer.{Answer}
+use Rattle.words.specs.declared.refusal.Answer.the-variants.{Done}
 use Rattle.tables.specs.Coordinates.{rowSum, added, solved}
 use Rattle.tables.specs.Matrix.{Matrix, matrixOf}
 use Rattle.tables.specs.Rules.{product}
 use Rattle.tables.specs.declared.matrix.Subframe.{Subframe}
+use Rattle.parity.specs.Lent.{judged}
 use Rattle.parity.specs.Equations.{dataOf, Meets, isBlock}
 
 -- A s
@@ -43,13 +45,11 @@ pub record IsCodeword (M : Matrix) (s y : List ℕ) : Type 0 where
 -- does not matter
 abbrev pub fillAnswer : Subframe → List ℕ → Answer
 fillAnswer s x =
-    cond (isBlock (matrixOf s) (length x))
-    (doneIf (eqb (firstNotBit (dataOf (matrixOf s) x)) (matrixOf s .equations)) NOT-A-BIT (firstNotBit (dataOf (matrixOf s) x)))
-    (refusedAt LENGTH 0)
+    let d = dataOf (matrixOf s) x in
+    judged (isBlock (matrixOf s) (length x)) (eqb (firstNotBit d) (matrixOf s .equations)) (firstNotBit d) Done
 
 -- the bytes then
 abbrev pub fillBytes : Subframe → List ℕ → List ℕ
 fillBytes s x =
-    leftIf
-    (isBlock (matrixOf s) (length x) && eqb (firstNotBit (dataOf (matrixOf s) x)) (matrixOf s .equations))
-    (withParity (matrixOf s) (dataOf (matrixOf s) x)) x
+    let d = dataOf (matrixOf s) x in
+    leftIf (isBlock (matrixOf s) (length x) && eqb (firstNotBit d) (matrixOf s .equations)) (withParity (matrixOf s) d) x

@@ -1,4 +1,6 @@
 -- The laws that the proofs and theorems of `parity` rest on.
+pub mod Lent
+pub mod Zeros
 pub mod Rows
 pub mod Substitution
 pub mod Scan
@@ -6,3 +8,4 @@ pub mod Parts
 pub mod Codewords
 pub mod Linear
 pub mod Passed
+pub mod Order

@@ -1,11 +1,10 @@
 // The equations of a block, and the first that isn't met.
 ghost use mathlib.Core.Path.{_≡_};
-ghost use mathlib.Core.List.{_++_};
 ghost use Prim.Native.Nat.{_+_, _-_, _%_};
-ghost use lib.ListN.{length, take, drop, replicate};
-ghost use Rattle.tables.specs.Coordinates.{symbolAt, added};
-ghost use Rattle.tables.specs.Matrix.{matrixOf, submatrixOf};
-ghost use Rattle.parity.specs.Equations.{dataOf, p1Of, p2Of, lastSum, firstOdd, firstUnmet, equationNumber, isBlock, metAnswer};
+ghost use lib.ListN.{length, replicate};
+ghost use Rattle.tables.specs.Coordinates.{symbolAt};
+ghost use Rattle.tables.specs.Matrix.{matrixOf};
+ghost use Rattle.parity.specs.Equations.{lastSum, firstOdd, firstUnmet, equationNumber, isBlock, metAnswer};
 ghost use Rattle.parity.specs.Laws.Passed.{sideBySide};
 use tables::matrix::Subframe;
 use tables::matrix::Submatrix;

@@ -1,7 +1,6 @@
 -- Submatrices B, C, D and E of subframe 3, as IS-GPS-800 prints them: row, column, row, column.
 -- Assumes nothing.
 use mathlib.Core.List.{List, [], _∷_}
-use Prim.Native.Nat.{ℕ}
 use Rattle.tables.specs.Coordinates.{Coordinate, coordinates}
 
 -- submatrix B of subframe 3: Table 6.2-9

@@ -1,20 +1,18 @@
 -- THEOREMS: the coordinate tables keep the rules of document 01. Each is one computed test over a whole table, and the law that turns
 -- the test into the rule.
 -- Assumes nothing.
-use mathlib.Core.Path.{_≡_, refl, sym, _∙_}
-use mathlib.Core.Bool.{Bool, true, _&&_, and-eq-true-iff}
-use mathlib.Core.List.{List, [], _∷_}
+use mathlib.Core.Path.{_≡_, refl}
+use mathlib.Core.Bool.{true, _&&_, and-eq-true-iff}
 use Prim.Native.Nat.{ℕ, _-_, _≤_}
-use native.Mathlib.Omega.{arith}
 use lib.Dec.{eqb, lit≤}
 use lib.ListN.{length}
 use borrow.Author.Tests.{eqb-true}
-use Rattle.tables.specs.Coordinates.{Coordinate, coordinates, ofSheets, rowSum, added, solved}
+use Rattle.tables.specs.Coordinates.{coordinates, ofSheets, rowSum, added, solved}
 use Rattle.tables.specs.A2.{a2}
 use Rattle.tables.specs.T2.{t2}
 use Rattle.tables.specs.A3.{a3}
 use Rattle.tables.specs.T3.{t3}
-use Rattle.tables.specs.Matrix.{Matrix, matrixOf, submatrixOf, subframe2, subframe3}
+use Rattle.tables.specs.Matrix.{matrixOf, submatrixOf}
 use Rattle.tables.specs.Rules.{HasOne, timesListed, onesIn, HasTotals, rowsOf, columnsOf, IsInside, ByColumns, phi, IsProper}
 use Rattle.tables.specs.Totals.{totalOf, a2-rows, a2-columns, t2-rows, t2-columns, a3-rows, a3-columns, t3-rows, t3-columns}
 use Rattle.tables.specs.Laws.Tests.{allInside, inside-tested, ascending, listed-once, byColumns, columns-tested, kept, totalsAre, totals-kept}

@@ -7,11 +7,11 @@ use native.Mathlib.Numerals.{add-one}
 use native.Mathlib.Omega.{arith}
 use lib.ListN.{length, getD, take, drop, set, length-append, length-drop, drop-of-length-le}
 use lib.Seq.{take-all, take-suc, take-suc-set, length-take-le, drop-set-lt}
-use Rattle.tables.specs.Coordinates.{rowSum, added, solved}
+use Rattle.tables.specs.Coordinates.{added, solved}
 use Rattle.tables.specs.Matrix.{Matrix}
 use Rattle.parity.specs.Equations.{lastSum}
 use Rattle.parity.specs.Fill.{dataSums, p1From, p2From, withParity}
-use Rattle.parity.specs.Laws.Parts.{lower, last-is, rest-part}
+use Rattle.parity.specs.Laws.Parts.{last-is, rest-part}
 use Rattle.parity.specs.Laws.Codewords.{nothing}
 
 pub none-taken : (a b : List ℕ) → take 0 a ≡ take 0 b

@@ -1,10 +1,10 @@
 -- The parity of any proper matrix: it meets every equation, and it is the only one that does.
 -- Assumes nothing.
-use mathlib.Core.Path.{_≡_, refl, sym, _∙_, ap, ap₂, subst}
+use mathlib.Core.Path.{_≡_, refl, sym, _∙_, ap, subst}
 use mathlib.Core.List.{List, [], _∷_, _++_}
 use Prim.Native.Nat.{ℕ, zero, suc, _+_, _-_, _%_, _≤_, _<_}
 use native.Mathlib.Omega.{arith}
-use lib.ListN.{length, getD, take, drop, replicate, length-append, length-drop, length-replicate}
+use lib.ListN.{length, getD, replicate, length-append, length-drop, length-replicate}
 use lib.Seq.{ext-getD, length-take-le}
 use Rattle.words.specs.Bits.{IsBits}
 use Rattle.words.specs.Sums.{sums}
@@ -14,28 +14,13 @@ use Rattle.tables.specs.Coordinates.{Coordinate, rowSum, added, solved, symbolA
 use Rattle.tables.specs.Matrix.{Matrix}
 use Rattle.tables.specs.Rules.{product, phi, IsInside, IsProper}
 use Rattle.tables.specs.Laws.Passes.{length-added, length-solved}
-use Rattle.tables.specs.declared.matrix.Submatrix.the-variants.{A, B, T}
-use Rattle.parity.specs.Equations.{dataOf, p2Of, Meets}
+use Rattle.tables.specs.declared.matrix.Submatrix.the-variants.{A, B}
+use Rattle.parity.specs.Equations.{p2Of, Meets}
 use Rattle.parity.specs.Fill.{dataSums, p1From, p2From, withParity, IsCodeword}
+use Rattle.parity.specs.Laws.Zeros.{zero-at, zeros-bits}
 use Rattle.parity.specs.Laws.Rows.{sum-zeros, sum-linear, added-right, added-bits, solved-bits}
 use Rattle.parity.specs.Laws.Substitution.{same-solution, solved-right}
 use Rattle.parity.specs.Laws.Parts.{upper, lower, data-is, parts-meet, upper-met, lower-met, put-together, bits-append, bits-drop}
-
--- ---- zeros
-
-pub zero-at : (n k : ℕ) → _≡_ {A = ℕ} (getD (replicate n 0) k 0) 0
-zero-at zero k = refl
-zero-at (suc n) zero = refl
-zero-at (suc n) (suc k) = zero-at n k
-
-pub zeros-bits : (n : ℕ) → IsBits (replicate n 0)
-zeros-bits n = record { bit = λ k. omega (arith, zero-at n k) }
-
-pub take-zeros : (m n : ℕ) → m ≤ n → _≡_ {A = List ℕ} (take m (replicate n 0)) (replicate m 0)
-take-zeros zero zero h = refl
-take-zeros zero (suc n) h = refl
-take-zeros (suc m) zero h = absurd (omega arith)
-take-zeros (suc m) (suc n) h = ap (λ (l : List ℕ). 0 ∷ l) (take-zeros m n (omega arith))
 
 -- a p1 of 0 adds nothing
 pub nothing : (m : List Coordinate) (r : ℕ) → rowSum m (0 ∷ []) r ≡ 0
@@ -43,12 +28,12 @@ nothing m r = sum-zeros m (0 ∷ []) r (zero-at 1)
 
 -- ---- products
 
-pub product-right : (n c : ℕ) (m : List Coordinate) → IsInside n c m → (s : List ℕ) (r : ℕ) → 1 ≤ r → r ≤ n
+product-right : (n c : ℕ) (m : List Coordinate) → IsInside n c m → (s : List ℕ) (r : ℕ) → 1 ≤ r → r ≤ n
     → symbolAt (product n m s) r % 2 ≡ rowSum m s r % 2
 product-right n c m w s r lo hi =
     omega (arith, added-right n c m w s (replicate n 0) (omega (arith, length-replicate {A = ℕ} n 0)) r lo hi, zero-at n (r - 1))
 
-pub length-product : (n : ℕ) (m : List Coordinate) (s : List ℕ) → length (product n m s) ≡ n
+length-product : (n : ℕ) (m : List Coordinate) (s : List ℕ) → length (product n m s) ≡ n
 length-product n m s = length-added m s (replicate n 0) ∙ length-replicate n 0
 
 module _ (M : Matrix) (g : IsProper M) where
@@ -120,7 +105,7 @@ module _ (M : Matrix) (g : IsProper M) where
           product-right (M .equations - 1) (M .equations) (M .a) (g .within A) s r lo hi,
         )
 
-    pub length-p2 : length (p2From M s) ≡ M .equations - 1
+    length-p2 : length (p2From M s) ≡ M .equations - 1
     unfolding p2From
     length-p2 = length-solved (M .t) _ ∙ length-added (M .b) (p1From M s ∷ []) (dataSums M s) ∙ length-data
 
@@ -128,7 +113,7 @@ module _ (M : Matrix) (g : IsProper M) where
     unfolding p1From
     p1-bit = omega arith
 
-    pub p2-bits : IsBits (p2From M s)
+    p2-bits : IsBits (p2From M s)
     unfolding p2From
     p2-bits = solved-bits (M .t) _ (added-bits (M .b) _ _ (more-bits p1-bit no-bits) data-bits)
 

@@ -1,13 +1,11 @@
 -- Blocks put together from data symbols, p1 and p2, and taken apart; their equations by parts.
 -- Assumes nothing.
-use mathlib.Core.Path.{_≡_, refl, sym, _∙_, ap, subst}
-use mathlib.Core.Bool.{cond}
+use mathlib.Core.Path.{_≡_, sym, _∙_, ap}
 use mathlib.Core.List.{List, [], _∷_, _++_}
-use mathlib.Core.Logic.{_≢_, ⊎-elim}
+use mathlib.Core.Logic.{⊎-elim}
 use Prim.Native.Nat.{ℕ, zero, suc, _+_, _-_, _%_, _≤_, _<_}
 use native.Mathlib.Numerals.{add-one}
 use native.Mathlib.Omega.{arith}
-use lib.Dec.{ltb}
 use lib.ListN.{length, getD, take, drop, length-drop}
 use lib.Seq.{take-all, take-at, drop-at, drop-drop, split-at}
 use borrow.Author.Tests.{lt-ltb, le-ltb}
@@ -16,19 +14,13 @@ use Rattle.words.specs.Laws.Digits.{first-bit, other-bits, no-bits, more-bits}
 use Rattle.tables.specs.Coordinates.{rowSum}
 use Rattle.tables.specs.Matrix.{Matrix}
 use Rattle.tables.specs.Laws.Cases.{lt-or-ge}
-use Rattle.parity.specs.Equations.{dataOf, p1Of, p2Of, upperSum, lastSum, equationSum, Meets}
+use Rattle.parity.specs.Equations.{dataOf, p1Of, p2Of, lastSum, equationSum, Meets}
 
 -- ---- bits of parts
 
 pub bits-append : (a b : List ℕ) → IsBits a → IsBits b → IsBits (a ++ b)
 bits-append [] b ha hb = hb
 bits-append (x ∷ a) b ha hb = more-bits (first-bit ha) (bits-append a b (other-bits ha) hb)
-
-pub bits-take : (n : ℕ) (l : List ℕ) → IsBits l → IsBits (take n l)
-bits-take zero [] h = no-bits
-bits-take zero (x ∷ l) h = no-bits
-bits-take (suc n) [] h = no-bits
-bits-take (suc n) (x ∷ l) h = more-bits (first-bit h) (bits-take n l (other-bits h))
 
 pub bits-drop : (n : ℕ) (l : List ℕ) → IsBits l → IsBits (drop n l)
 bits-drop zero [] h = h

@@ -1,14 +1,14 @@
 -- What the passes over a block leave in its sums: those of its equations, modulo 2.
 -- Assumes nothing.
-use mathlib.Core.Path.{_≡_, refl, sym, _∙_, ap}
-use mathlib.Core.List.{List, [], _∷_, _++_}
+use mathlib.Core.Path.{_≡_, _∙_, ap}
+use mathlib.Core.List.{List, [], _∷_}
 use mathlib.Core.Logic.{⊎-elim}
 use Prim.Native.Nat.{ℕ, _+_, _-_, _%_, _≤_, _<_}
 use native.Mathlib.Omega.{arith}
 use lib.ListN.{length, getD, set, replicate, length-set, length-replicate}
 use lib.Seq.{getD-set-same, getD-set-other}
 use borrow.Author.Tests.{lt-ltb, le-ltb}
-use Rattle.tables.specs.Coordinates.{Coordinate, rowSum, added, symbolAt}
+use Rattle.tables.specs.Coordinates.{rowSum, added, symbolAt}
 use Rattle.tables.specs.Matrix.{Matrix, submatrixOf}
 use Rattle.tables.specs.Rules.{IsInside, IsProper}
 use Rattle.tables.specs.Laws.Passes.{length-added}
@@ -18,7 +18,7 @@ use Rattle.tables.specs.declared.matrix.Submatrix.the-variants.{A, B, T, C, D, 
 use Rattle.parity.specs.Equations.{dataOf, p1Of, p2Of, lastSum, equationSum, firstOdd, firstUnmet}
 use Rattle.parity.specs.Laws.Rows.{added-right}
 use Rattle.parity.specs.Laws.Scan.{scan-same}
-use Rattle.parity.specs.Laws.Codewords.{zero-at}
+use Rattle.parity.specs.Laws.Zeros.{zero-at}
 
 -- three submatrices that stand side by side, added over the parts of a block
 unfoldable pub sideBySide : Matrix → Submatrix → Submatrix → Submatrix → List ℕ → List ℕ → List ℕ
@@ -26,7 +26,7 @@ sideBySide M left middle right x acc =
     added (submatrixOf M right) (p2Of M x) (added (submatrixOf M middle) (p1Of M x) (added (submatrixOf M left) (dataOf M x) acc))
 
 -- the sums of all equations: those of A B T, and then that of C D E
-abbrev pub equationSums : Matrix → List ℕ → List ℕ
+abbrev equationSums : Matrix → List ℕ → List ℕ
 equationSums M x = set (sideBySide M A B T x (replicate (M .equations) 0)) (M .equations - 1) (lastSum M x % 2)
 
 pub length-side : (M : Matrix) (left middle right : Submatrix) (x acc : List ℕ) → length (sideBySide M left middle right x acc) ≡ length acc

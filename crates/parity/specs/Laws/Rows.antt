@@ -1,6 +1,6 @@
 -- Row sums over the ones of a matrix, and what passes over the ones make of them.
 -- Assumes nothing.
-use mathlib.Core.Path.{_≡_, refl, sym, _∙_, ap}
+use mathlib.Core.Path.{_≡_, refl, _∙_, ap}
 use mathlib.Core.Bool.{Bool, true, false, cond}
 use mathlib.Core.Logic.{_≢_, ⊎-elim}
 use mathlib.Core.List.{List, [], _∷_}
@@ -36,7 +36,7 @@ sum-other i j m s r e = rw (ne-eqb i r e) (omega arith)
 
 -- ---- bits stay bits
 
-pub set-bits : (l : List ℕ) (k v : ℕ) → IsBits l → v < 2 → IsBits (set l k v)
+set-bits : (l : List ℕ) (k v : ℕ) → IsBits l → v < 2 → IsBits (set l k v)
 set-bits [] k v b h = b
 set-bits (x ∷ l) zero v b h = more-bits h (other-bits b)
 set-bits (x ∷ l) (suc k) v b h = more-bits (first-bit b) (set-bits l k v (other-bits b) h)

@@ -1,18 +1,16 @@
 -- Forward substitution over T: it solves the rows, and the solution is the only one.
 -- Assumes nothing.
 use mathlib.Core.Path.{_≡_, refl, sym, _∙_, ap}
-use mathlib.Core.Bool.{Bool, true, false, cond}
 use mathlib.Core.Logic.{_≢_, ⊎-elim}
-use mathlib.Core.List.{List, [], _∷_}
+use mathlib.Core.List.{List}
 use Prim.Native.Nat.{ℕ, _+_, _-_, _%_, _≤_, _<_}
 use native.Mathlib.Omega.{arith}
 use lib.Bits.{bitXor}
-use lib.Dec.{eqb}
 use lib.ListN.{length, getD, set, length-set}
 use lib.Seq.{getD-set-same, getD-set-other}
 use borrow.Author.Tests.{eq-eqb, ne-eqb}
 use Rattle.words.specs.Bits.{IsBits}
-use Rattle.tables.specs.Coordinates.{Coordinate, rc, symbolAt, rowSum, addedAt, substituted, solved}
+use Rattle.tables.specs.Coordinates.{Coordinate, symbolAt, rowSum, addedAt, substituted, solved}
 use Rattle.tables.specs.Rules.{ByColumns, finished, diagonal, below}
 use Rattle.tables.specs.Laws.Cases.{same-or-not}
 use Rattle.parity.specs.Laws.Rows.{xor-parity, sum-same, sum-other}

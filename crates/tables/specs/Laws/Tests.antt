@@ -8,10 +8,10 @@ use Prim.Native.Nat.{ℕ, zero, suc, _+_, _*_, _^_, _≤_, _<_}
 use native.Mathlib.Nat.{pow-suc}
 use native.Mathlib.Omega.{arith}
 use lib.Dec.{eqb, leb, ltb}
-use borrow.Author.Tests.{eqb-true, eqb-false, leb-true, ltb-true, ltb-false, lt-ltb, le-leb, eq-eqb, ne-eqb}
+use borrow.Author.Tests.{eqb-true, leb-true, ltb-true, lt-ltb, le-leb}
 use Rattle.tables.specs.Coordinates.{Coordinate, rc}
 use Rattle.tables.specs.Rules.{HasOne, here, there, timesListed, rowOf, columnOf, onesIn, HasTotals, IsInside, ByColumns, finished, diagonal, below}
-use Rattle.tables.specs.Laws.Cases.{same-or-not, lt-or-ge}
+use Rattle.tables.specs.Laws.Cases.{lt-or-ge}
 
 -- ---- every coordinate is within n rows and c columns
 
@@ -125,7 +125,7 @@ kept-ones key test k h (o ∷ m) = one (eqb (key o) k) (test o) refl refl (kept-
     one true false e f rest = absurd (false≢true (sym f ∙ h o (eqb-true (key o) k e)))
     one false false e f rest = omega arith
 
-pub totals-tested : (key : Coordinate → ℕ) (total : ℕ → ℕ) (n halvings from : ℕ) (m : List Coordinate)
+totals-tested : (key : Coordinate → ℕ) (total : ℕ → ℕ) (n halvings from : ℕ) (m : List Coordinate)
     → totalsAre key total n halvings from m ≡ true
     → (k : ℕ) → from ≤ k → k < from + 2 ^ halvings → 1 ≤ k → k ≤ n → onesIn key m k ≡ total k
 unfolding totalsAre

@@ -1,11 +1,11 @@
 -- What T's order of listing says of its diagonal and of what lies above it.
 -- Assumes nothing.
 use mathlib.Core.Path.{_≡_}
-use mathlib.Core.List.{List, _∷_}
+use mathlib.Core.List.{List}
 use mathlib.Core.Logic.{_≢_, ⊎-elim}
 use Prim.Native.Nat.{ℕ, _+_, _≤_, _<_}
 use native.Mathlib.Omega.{arith}
-use Rattle.tables.specs.Coordinates.{Coordinate, rc}
+use Rattle.tables.specs.Coordinates.{Coordinate}
 use Rattle.tables.specs.Rules.{HasOne, here, there, ByColumns, finished, diagonal, below}
 use Rattle.tables.specs.Laws.Cases.{same-or-not}
 

@@ -1,6 +1,6 @@
 -- `parity::equations::add_side_by_side` meets its contract: the parts that it lends are the data symbols, p1 and p2.
 -- Assumes nothing.
-use mathlib.Core.Path.{_≡_, sym, _∙_}
+use mathlib.Core.Path.{sym}
 use Prim.Native.Nat.{_+_}
 use native.Mathlib.Omega.{arith}
 use lib.Seq.{length-take-le}

@@ -1,10 +1,9 @@
 -- `parity::equations::first_odd` meets its contract. The invariant: the scan from here finds what the whole scan finds.
 -- Assumes nothing.
-use mathlib.Core.Path.{_≡_, refl, sym, _∙_, ap}
-use Prim.Native.Nat.{ℕ, _+_, _-_, _%_, _≤_, _<_}
+use mathlib.Core.Path.{_≡_, sym, _∙_, ap}
+use Prim.Native.Nat.{_+_, _-_, _≤_}
 use native.Mathlib.Omega.{arith}
-use borrow.Author.Needs.{needs}
-use lib.ListN.{length, getD}
+use lib.ListN.{length}
 use Rattle.tables.specs.Coordinates.{symbolAt}
 use Rattle.parity.specs.Equations.{firstOdd}
 use Rattle.parity.specs.Laws.Scan.{scan-here, scan-next, scan-end}

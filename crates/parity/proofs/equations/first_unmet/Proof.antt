@@ -1,5 +1,5 @@
 -- `parity::equations::first_unmet` meets its contract: 1, then 2, then the equations. Assumes nothing.
-use mathlib.Core.Path.{_≡_, sym, _∙_}
+use mathlib.Core.Path.{sym, _∙_}
 use borrow.Author.Tests.{not-true, not-false, eqb-true, eq-eqb, ne-eqb}
 use borrow.Author.Needs.{needs}
 use Rattle.parity.proofs.equations.first_unmet.Statement.{statement}

@@ -1,5 +1,5 @@
 -- `parity::equations::first_unmet_by` meets its contract: its sums are those of the equations, modulo 2. Assumes nothing.
-use mathlib.Core.Path.{_≡_, ap, _∙_}
+use mathlib.Core.Path.{ap, _∙_}
 use Prim.Native.Nat.{ℕ}
 use native.Mathlib.Omega.{arith}
 use lib.ListN.{length, length-replicate}

@@ -1,10 +1,10 @@
 -- `parity::equations::unmet` meets its contract: the sums that it lends start from zero. Assumes nothing.
-use mathlib.Core.Path.{_≡_, sym, ap, _∙_}
+use mathlib.Core.Path.{sym, ap, _∙_}
 use Prim.Native.Nat.{ℕ, _≤_}
 use native.Mathlib.Omega.{arith}
 use lib.ListN.{length, replicate, length-replicate}
 use Rattle.tables.specs.Published.{at-most-600}
-use Rattle.parity.specs.Laws.Codewords.{take-zeros}
+use Rattle.parity.specs.Laws.Zeros.{take-zeros}
 use borrow.Author.Needs.{needs}
 use Rattle.parity.proofs.equations.unmet.Statement.{statement}
 use Rattle.parity.proofs.equations.unmet.Tie as tie

@@ -1,5 +1,5 @@
 -- `parity::fill::solve_into` meets its contract. Assumes nothing.
-use mathlib.Core.Path.{_≡_, ap, _∙_}
+use mathlib.Core.Path.{ap, _∙_}
 use Rattle.tables.specs.Coordinates.{solved}
 use borrow.Author.Needs.{needs}
 use Rattle.parity.proofs.fill.solve_into.Statement.{statement}

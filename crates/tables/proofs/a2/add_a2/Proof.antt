@@ -1,5 +1,5 @@
 -- `tables::a2::add_a2` meets its contract: its sheets, one after another, are submatrix A. Assumes nothing.
-use mathlib.Core.Path.{_≡_, ap, _∙_}
+use mathlib.Core.Path.{ap, _∙_}
 use lib.ListN.{length}
 use Rattle.tables.specs.A2.{a2}
 use Rattle.tables.specs.Laws.Passes.{length-added, added-sheets}

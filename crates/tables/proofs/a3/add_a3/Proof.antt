@@ -1,5 +1,5 @@
 -- `tables::a3::add_a3` meets its contract: its sheets, one after another, are submatrix A. Assumes nothing.
-use mathlib.Core.Path.{_≡_, ap, _∙_}
+use mathlib.Core.Path.{ap, _∙_}
 use lib.ListN.{length}
 use Rattle.tables.specs.A3.{a3}
 use Rattle.tables.specs.Laws.Passes.{length-added, added-sheets}

@@ -1,5 +1,5 @@
 -- `tables::t2::solve_t2` meets its contract: its sheets, one after another, are submatrix T. Assumes nothing.
-use mathlib.Core.Path.{_≡_, ap, _∙_}
+use mathlib.Core.Path.{ap, _∙_}
 use lib.ListN.{length}
 use Rattle.tables.specs.T2.{t2}
 use Rattle.tables.specs.Laws.Passes.{length-solved, solved-sheets}

@@ -1,0 +1,92 @@
+// How many cases were read, and how many of each kind agree.
+use super::input::Kind;
+use std::num::wrapping_add_u64;
+
+pub(crate) struct Tally {
+    cases: u64,
+    filled_two: u64,
+    filled_three: u64,
+    unmet_two: u64,
+    unmet_three: u64,
+}
+
+pub(crate) fn nothing_yet() -> Tally {
+    Tally {
+        cases: 0,
+        filled_two: 0,
+        filled_three: 0,
+        unmet_two: 0,
+        unmet_three: 0,
+    }
+}
+
+// The tally with one case more. A case that does not agree is printed.
+pub(crate) fn with_case(tally: Tally, kind: Kind, is_agreed: bool) -> Tally {
+    let mut next = tally;
+    next.cases = one_more(tally.cases);
+    if is_agreed {
+        return with_agreed(next, kind);
+    }
+    print_disagreement(next.cases);
+    next
+}
+
+fn with_agreed(tally: Tally, kind: Kind) -> Tally {
+    let mut next = tally;
+    match kind {
+        Kind::FilledTwo => {
+            next.filled_two = one_more(tally.filled_two);
+        }
+        Kind::FilledThree => {
+            next.filled_three = one_more(tally.filled_three);
+        }
+        Kind::UnmetTwo => {
+            next.unmet_two = one_more(tally.unmet_two);
+        }
+        Kind::UnmetThree => {
+            next.unmet_three = one_more(tally.unmet_three);
+        }
+        _ => {}
+    }
+    next
+}
+
+fn one_more(count: u64) -> u64 {
+    wrapping_add_u64(count, 1)
+}
+
+fn print_disagreement(line: u64) {
+    io::write_all(1, b"line ");
+    io::print_decimal(1, line);
+    io::write_all(1, b": the library answers otherwise\n");
+}
+
+pub(crate) fn print(tally: Tally) {
+    print_count(b"", tally.cases, b" cases of the second program\n");
+    print_filled(b"subframe 2: ", tally.filled_two);
+    print_filled(b"subframe 3: ", tally.filled_three);
+    print_unmet(b"subframe 2: ", tally.unmet_two);
+    print_unmet(b"subframe 3: ", tally.unmet_three);
+}
+
+fn print_filled(subframe: &[u8], count: u64) {
+    print_count(
+        subframe,
+        count,
+        b" blocks filled as the second program fills them\n",
+    );
+}
+
+fn print_unmet(subframe: &[u8], count: u64) {
+    print_count(
+        subframe,
+        count,
+        b" blocks with the second program's first unmet equation, or none\n",
+    );
+}
+
+fn print_count(before: &[u8], count: u64, after: &[u8]) {
+    io::write_all(1, before);
+    io::print_decimal(1, count);
+    io::write_all(1, after);
+}

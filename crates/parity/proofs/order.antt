@@ -1,0 +1,2 @@
+-- What the proofs of `order` use.
+mod Laws
