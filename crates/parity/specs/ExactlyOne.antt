@@ -4,19 +4,26 @@
 use mathlib.Core.Path.{_≡_, sym, _∙_}
 use mathlib.Core.List.{List}
 use mathlib.Core.Logic.{_≢_}
-use Prim.Native.Nat.{ℕ, _%_, _≤_, _<_}
+use Prim.Native.Nat.{ℕ, _-_, _%_, _≤_, _<_}
 use native.Mathlib.Omega.{arith}
 use lib.ListN.{length}
 use Rattle.words.specs.Bits.{IsBits}
 use Rattle.words.specs.Sums.{sums}
 use Rattle.words.specs.Laws.Sums.{length-sums, sums-are}
+use Rattle.tables.specs.Coordinates.{symbolAt, rowSum, solved}
 use Rattle.tables.specs.Matrix.{Matrix}
 use Rattle.tables.specs.Rules.{IsProper}
 use Rattle.parity.specs.Equations.{equationSum, Meets, firstUnmet}
 use Rattle.parity.specs.Fill.{withParity, IsCodeword}
 use Rattle.parity.specs.Laws.Codewords.{codeword, same-codeword}
 use Rattle.parity.specs.Laws.Linear.{codeword-sums}
+use Rattle.parity.specs.Laws.Substitution.{solved-right}
 use Rattle.parity.specs.Laws.Scan.{Scanned, all-even, first-is, scanned}
+
+-- Forward substitution over T is T⁻¹: T times what it gives is what it was given, row by row, modulo 2.
+pub t-inverse : (M : Matrix) → IsProper M → (y : List ℕ) → length y ≡ M .equations - 1 → (r : ℕ) → 1 ≤ r → r ≤ M .equations - 1
+    → rowSum (M .t) (solved (M .t) y) r % 2 ≡ symbolAt y r % 2
+t-inverse M g y ly r lo hi = solved-right (M .equations - 1) (g .t-listed) y ly r lo hi
 
 -- What is filled is a block of bits that keeps the data symbols and meets every equation.
 pub filled-meets : (M : Matrix) → IsProper M → (s : List ℕ) → IsBits s → length s ≡ M .equations → IsCodeword M s (withParity M s)

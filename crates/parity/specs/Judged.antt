@@ -79,6 +79,15 @@ module _ (s : Subframe) (x : List ℕ) where
       rw (eq-eqb (length x) _ e, eq-eqb (firstNotBit d) (matrixOf s .equations) (bits-none d bits ∙ ld))
       (refl, filled-meets (matrixOf s) (proper s) d bits ld)
 
+  -- Else it is refused: 1 at 0 for another length, then 2 at the first data symbol that is neither 0 nor 1.
+  pub fill-refused-length : length x ≢ matrixOf s .equations + matrixOf s .equations → fillAnswer s x ≡ refusedAt LENGTH 0
+  fill-refused-length h = rw (ne-eqb (length x) (matrixOf s .equations + matrixOf s .equations) h)
+
+  pub fill-refused-byte : length x ≡ matrixOf s .equations + matrixOf s .equations
+      → firstNotBit (dataOf (matrixOf s) x) ≢ matrixOf s .equations
+      → fillAnswer s x ≡ refusedAt NOT-A-BIT (firstNotBit (dataOf (matrixOf s) x))
+  fill-refused-byte e h = rw (eq-eqb (length x) _ e, ne-eqb (firstNotBit (dataOf (matrixOf s) x)) (matrixOf s .equations) h)
+
   -- Where filling is refused, the bytes are as they were.
   pub fill-unchanged : Refuses (fillAnswer s x) → fillBytes s x ≡ x
   fill-unchanged h =

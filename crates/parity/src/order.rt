@@ -154,7 +154,8 @@ fn put_in_order(block2: &[u8], block3: &[u8], symbols: &mut [u8])
 // The same where `good` says so; else nothing is written.
 fn put_if(good: bool, block2: &[u8], block3: &[u8], symbols: &mut [u8])
     requires { ⌜ (length (now block2) + length (now block3) ≡ SYMBOLS) × (length (now symbols) ≡ SYMBOLS) ⌝ }
-    ensures { λ r. ⌜ now (symbols .exit) ≡ leftIf good (interleaved (now (block2 .entry) ++ now (block3 .entry))) (now (symbols .entry)) ⌝ }
+    ensures { λ r. ⌜ now (symbols .exit)
+        ≡ leftIf good (interleaved (now (block2 .entry) ++ now (block3 .entry))) (now (symbols .entry)) ⌝ }
 {
     if good {
         put_in_order(block2, block3, symbols);
@@ -164,7 +165,8 @@ fn put_if(good: bool, block2: &[u8], block3: &[u8], symbols: &mut [u8])
 // The symbols of both blocks as they leave; refused 1 at 0 unless the lengths are right, then 2 at the first byte that is no bit,
 // counted over the blocks one after another.
 pub fn interleave(block2: &[u8], block3: &[u8], symbols: &mut [u8]) -> Answer
-    ensures { λ r. ⌜ (r ≡ interleaveAnswer (now (block2 .entry)) (now (block3 .entry)) (now (symbols .entry))) × (now (symbols .exit) ≡ interleaveBytes (now (block2 .entry)) (now (block3 .entry)) (now (symbols .entry))) ⌝ }
+    ensures { λ r. ⌜ (r ≡ interleaveAnswer (now (block2 .entry)) (now (block3 .entry)) (now (symbols .entry)))
+        × (now (symbols .exit) ≡ interleaveBytes (now (block2 .entry)) (now (block3 .entry)) (now (symbols .entry))) ⌝ }
 {
     if has_lengths(block2.len(), block3.len(), symbols.len()) {
         let place = first_not_bit_of(block2, block3);
@@ -191,7 +193,8 @@ fn take_block(symbols: &[u8], from: usize, block: &mut [u8])
 // Both blocks where `good` says so; else nothing is written.
 fn take_if(good: bool, symbols: &[u8], block2: &mut [u8], block3: &mut [u8])
     requires { ⌜ (length (now symbols) ≡ SYMBOLS) × (length (now block2) ≡ SYMBOLS-2) × (length (now block3) ≡ SYMBOLS-3) ⌝ }
-    ensures { λ r. ⌜ (now (block2 .exit) ≡ leftIf good (firstBlock (now (symbols .entry))) (now (block2 .entry))) × (now (block3 .exit) ≡ leftIf good (secondBlock (now (symbols .entry))) (now (block3 .entry))) ⌝ }
+    ensures { λ r. ⌜ (now (block2 .exit) ≡ leftIf good (firstBlock (now (symbols .entry))) (now (block2 .entry)))
+        × (now (block3 .exit) ≡ leftIf good (secondBlock (now (symbols .entry))) (now (block3 .entry))) ⌝ }
 {
     if good {
         take_block(symbols, 0, block2);
@@ -201,7 +204,9 @@ fn take_if(good: bool, symbols: &[u8], block2: &mut [u8], block3: &mut [u8])
 
 // The blocks of the symbols as they left; refused 1 at 0 unless the lengths are right, then 2 at the first byte that is no bit.
 pub fn deinterleave(symbols: &[u8], block2: &mut [u8], block3: &mut [u8]) -> Answer
-    ensures { λ r. ⌜ (r ≡ deinterleaveAnswer (now (symbols .entry)) (now (block2 .entry)) (now (block3 .entry))) × (now (block2 .exit) ≡ deinterleaveBlock2 (now (symbols .entry)) (now (block2 .entry)) (now (block3 .entry))) × (now (block3 .exit) ≡ deinterleaveBlock3 (now (symbols .entry)) (now (block2 .entry)) (now (block3 .entry))) ⌝ }
+    ensures { λ r. ⌜ (r ≡ deinterleaveAnswer (now (symbols .entry)) (now (block2 .entry)) (now (block3 .entry)))
+        × (now (block2 .exit) ≡ deinterleaveBlock2 (now (symbols .entry)) (now (block2 .entry)) (now (block3 .entry)))
+        × (now (block3 .exit) ≡ deinterleaveBlock3 (now (symbols .entry)) (now (block2 .entry)) (now (block3 .entry))) ⌝ }
 {
     if has_lengths(block2.len(), block3.len(), symbols.len()) {
         let place = first_not_bit(symbols);

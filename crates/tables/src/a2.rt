@@ -21,6 +21,7 @@ pub(crate) fn add_a2(symbols: &[u8], sums: &mut [u8])
     add_a2_11(symbols, sums);
 }
 
+// Each of these lends one sheet.
 fn add_a2_1(symbols: &[u8], sums: &mut [u8])
     ensures { λ r. ⌜ now (sums .exit) ≡ added (coordinates a2-1) (now (symbols .entry)) (now (sums .entry)) ⌝ }
 {

@@ -15,6 +15,7 @@ pub(crate) fn add_a3(symbols: &[u8], sums: &mut [u8])
     add_a3_5(symbols, sums);
 }
 
+// Each of these lends one sheet.
 fn add_a3_1(symbols: &[u8], sums: &mut [u8])
     ensures { λ r. ⌜ now (sums .exit) ≡ added (coordinates a3-1) (now (symbols .entry)) (now (sums .entry)) ⌝ }
 {

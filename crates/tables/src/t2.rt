@@ -15,6 +15,7 @@ pub(crate) fn add_t2(symbols: &[u8], sums: &mut [u8])
     add_t2_4(symbols, sums);
 }
 
+// Each of these lends one sheet.
 fn add_t2_1(symbols: &[u8], sums: &mut [u8])
     ensures { λ r. ⌜ now (sums .exit) ≡ added (coordinates t2-1) (now (symbols .entry)) (now (sums .entry)) ⌝ }
 {
@@ -49,6 +50,7 @@ pub(crate) fn solve_t2(unknowns: &mut [u8])
     solve_t2_4(unknowns);
 }
 
+// Each of these lends one sheet.
 fn solve_t2_1(unknowns: &mut [u8])
     ensures { λ r. ⌜ now (unknowns .exit) ≡ solved (coordinates t2-1) (now (unknowns .entry)) ⌝ }
 {

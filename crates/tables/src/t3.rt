@@ -13,6 +13,7 @@ pub(crate) fn add_t3(symbols: &[u8], sums: &mut [u8])
     add_t3_2(symbols, sums);
 }
 
+// Each of these lends one sheet.
 fn add_t3_1(symbols: &[u8], sums: &mut [u8])
     ensures { λ r. ⌜ now (sums .exit) ≡ added (coordinates t3-1) (now (symbols .entry)) (now (sums .entry)) ⌝ }
 {
@@ -33,6 +34,7 @@ pub(crate) fn solve_t3(unknowns: &mut [u8])
     solve_t3_2(unknowns);
 }
 
+// Each of these lends one sheet.
 fn solve_t3_1(unknowns: &mut [u8])
     ensures { λ r. ⌜ now (unknowns .exit) ≡ solved (coordinates t3-1) (now (unknowns .entry)) ⌝ }
 {

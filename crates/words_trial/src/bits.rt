@@ -1,7 +1,7 @@
 // The functions of `words::bits`.
-use super::show::done;
-use super::show::expected;
-use super::show::refused;
+use show::done;
+use show::expected;
+use show::refused;
 use words::bits::first_not_bit;
 use words::bits::put_number;
 use words::bits::put_signed;

@@ -1,7 +1,7 @@
 // The functions of `words::crc`.
-use super::show::done;
-use super::show::expected;
-use super::show::refused;
+use show::done;
+use show::expected;
+use show::refused;
 use words::crc::check_bits;
 use words::crc::is_right;
 use words::crc::put_check;

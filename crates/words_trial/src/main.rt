@@ -3,7 +3,6 @@
 mod bits;
 mod crc;
 mod refusal;
-mod show;
 mod time;
 
 fn main() {

@@ -1,6 +1,6 @@
 // The constants and the function of `words::refusal`.
-use super::show::expected;
-use super::show::refused;
+use show::expected;
+use show::refused;
 use words::refusal::CHECK_2;
 use words::refusal::CHECK_3;
 use words::refusal::EQUATION_2;

@@ -1,9 +1,9 @@
 // The functions of `words::time`.
-use super::show::done;
-use super::show::expected;
-use super::show::is_done;
-use super::show::is_refused;
-use super::show::refused;
+use show::done;
+use show::expected;
+use show::is_done;
+use show::is_refused;
+use show::refused;
 use words::bits::put_number;
 use words::bits::take_number;
 use words::time::Time;

@@ -10,7 +10,7 @@ use lib.ListN.{length, getD, take, drop, length-drop}
 use lib.Seq.{take-all, take-at, drop-at, drop-drop, split-at}
 use borrow.Author.Tests.{lt-ltb, le-ltb}
 use Rattle.words.specs.Bits.{IsBits}
-use Rattle.words.specs.Laws.Digits.{first-bit, other-bits, no-bits, more-bits}
+use Rattle.words.specs.Laws.Digits.{first-bit, other-bits, more-bits}
 use Rattle.tables.specs.Coordinates.{rowSum}
 use Rattle.tables.specs.Matrix.{Matrix}
 use Rattle.tables.specs.Laws.Cases.{lt-or-ge}

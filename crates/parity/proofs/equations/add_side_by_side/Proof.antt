@@ -1,8 +1,9 @@
 -- `parity::equations::add_side_by_side` meets its contract: the parts that it lends are the data symbols, p1 and p2.
 -- Assumes nothing.
-use mathlib.Core.Path.{sym}
-use Prim.Native.Nat.{_+_}
+use mathlib.Core.Path.{_≡_, sym}
+use Prim.Native.Nat.{_+_, _≤_}
 use native.Mathlib.Omega.{arith}
+use lib.ListN.{length}
 use lib.Seq.{length-take-le}
 use Rattle.tables.specs.Matrix.{matrixOf}
 use Rattle.tables.specs.Published.{proper}
@@ -12,6 +13,15 @@ use borrow.Author.Needs.{needs}
 use Rattle.parity.proofs.equations.add_side_by_side.Statement.{statement}
 use Rattle.parity.proofs.equations.add_side_by_side.Tie as tie
 
+-- the block has n data symbols and n of parity, where n is what `equations` gave
+facts : (c : tie.After-equations)
+    → (1 ≤ c .equations .result) × (length (c .before .before .before .args .block .now) ≡ c .equations .result + c .equations .result)
+facts c =
+    let start = c .before .before .before in (
+      omega (arith, c .equations .ensures, proper (start .args .subframe) .some),
+      omega (arith, c .equations .ensures, start .pre),
+    )
+
 equations-requires : tie.Need-equations-requires
 equations-requires c κs = search needs
 
@@ -20,8 +30,8 @@ add-m c = search needs
 
 slice-aggregate-add : tie.Need-slice-aggregate-add
 slice-aggregate-add c =
-    let start = c .before .before .before .before in
-    sym (length-take-le (c .before .equations .result) (start .args .block .now) (omega (arith, c .before .equations .ensures, start .pre)))
+    let known = c .before in
+    sym (length-take-le (known .equations .result) (known .before .before .before .args .block .now) (omega (arith, facts known)))
 
 add-requires : tie.Need-add-requires
 add-requires c κs = search needs
@@ -33,16 +43,22 @@ part-add-start : tie.Need-part-add-start
 part-add-start c = search needs
 
 part-add-end : tie.Need-part-add-end
-part-add-end c = omega (arith, c .before .before .before .before .before .equations .ensures, c .before .before .before .before .before .before .before .before .pre, proper (c .before .before .before .before .before .before .before .before .args .subframe) .some)
+part-add-end c = omega (arith, facts (c .before .before .before .before .before))
 
 add-requires-2 : tie.Need-add-requires-2
 add-requires-2 c κs = search needs
 
+-- p2 begins within the block
+enough : (c : tie.After-slice-known3)
+    → (let known = c .before .before .before .before .before .before .before .before .before .before in
+    known .equations .result + 1 ≤ length (known .before .before .before .args .block .now))
+enough c = omega (arith, facts (c .before .before .before .before .before .before .before .before .before .before))
+
 sub-add-2 : tie.Need-sub-add-2
-sub-add-2 c = omega (arith, c .before .before .before .before .before .before .before .before .before .before .equations .ensures, c .before .before .before .before .before .before .before .before .before .before .before .before .before .pre, proper (c .before .before .before .before .before .before .before .before .before .before .before .before .before .args .subframe) .some)
+sub-add-2 c = enough c
 
 part-add-start-2 : tie.Need-part-add-start-2
-part-add-start-2 c = omega (arith, c .before .before .before .before .before .before .before .before .before .before .equations .ensures, c .before .before .before .before .before .before .before .before .before .before .before .before .before .pre, proper (c .before .before .before .before .before .before .before .before .before .before .before .before .before .args .subframe) .some)
+part-add-start-2 c = enough c
 
 part-add-end-2 : tie.Need-part-add-end-2
 part-add-end-2 c = search needs

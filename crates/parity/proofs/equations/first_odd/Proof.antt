@@ -17,7 +17,9 @@ abbrev μ-loop : tie.MeasureT-loop
 μ-loop sums k₀ k = length sums - k
 
 loop-holds : tie.Need-loop-holds Inv-loop μ-loop
-loop-holds c = (omega arith, ap (firstOdd (symbolAt (c .args .sums .now)) 1) (let h : length (c .args .sums .now) - 0 ≡ length (c .args .sums .now) = omega arith in h))
+loop-holds c =
+    let sums = c .args .sums .now in
+    (omega arith, ap (firstOdd (symbolAt sums) 1) (let e : length sums - 0 ≡ length sums = omega arith in e))
 
 shared-slice-read-if1 : tie.Need-shared-slice-read-if1 Inv-loop μ-loop
 shared-slice-read-if1 c = omega arith
@@ -26,7 +28,10 @@ add-result : tie.Need-add-result Inv-loop μ-loop
 add-result c = omega arith
 
 returns : tie.Need-returns Inv-loop μ-loop
-returns c = let l = c .before .before .before in sym (scan-here (l .before .args .sums .now) (l .loop .k) (c .before .before .loop-test .taken) (c .if1 .taken)) ∙ l .loop .inv .1
+returns c =
+    let start = c .before .before .before in
+    sym (scan-here (start .before .args .sums .now) (start .loop .k) (c .before .before .loop-test .taken) (c .if1 .taken))
+    ∙ start .loop .inv .1
 
 add-k : tie.Need-add-k Inv-loop μ-loop
 add-k c = omega arith
@@ -35,10 +40,17 @@ loop-less : tie.Need-loop-less Inv-loop μ-loop
 loop-less c = omega arith
 
 loop-again : tie.Need-loop-again Inv-loop μ-loop
-loop-again c = let l = c .before .before .before in (omega arith, sym (scan-next (l .before .args .sums .now) (l .loop .k) (c .before .before .loop-test .taken) (c .if1 .left)) ∙ l .loop .inv .1)
+loop-again c =
+    let start = c .before .before .before in (
+      omega arith,
+      sym (scan-next (start .before .args .sums .now) (start .loop .k) (c .before .before .loop-test .taken) (c .if1 .left))
+          ∙ start .loop .inv .1,
+    )
 
 returns-2 : tie.Need-returns-2 Inv-loop μ-loop
-returns-2 c = let l = c .before in sym (scan-end (l .before .args .sums .now) (l .loop .k) (c .loop-test .left)) ∙ l .loop .inv .1
+returns-2 c =
+    let start = c .before in
+    sym (scan-end (start .before .args .sums .now) (start .loop .k) (c .loop-test .left)) ∙ start .loop .inv .1
 
 pub first-odd-spec : {M : Type 1} → statement M
 first-odd-spec =

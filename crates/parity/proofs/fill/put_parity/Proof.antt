@@ -17,7 +17,8 @@ use Rattle.parity.proofs.fill.put_parity.Statement.{statement}
 use Rattle.parity.proofs.fill.put_parity.Tie as tie
 
 -- after the pass over A, the sums are as long as before
-sums-long : (c : tie.After-add) → length (c .add .last .1 .1 .1 .0) ≡ matrixOf (c .before .before .before .before .before .before .args .subframe) .equations - 1
+sums-long : (c : tie.After-add)
+    → length (c .add .last .1 .1 .1 .0) ≡ matrixOf (c .before .before .before .before .before .before .args .subframe) .equations - 1
 sums-long c =
     let start = c .before .before .before .before .before .before in
     let M = matrixOf (start .args .subframe) in
@@ -33,7 +34,8 @@ slice-reshare-prefix-add c = search needs
 slice-aggregate-add : tie.Need-slice-aggregate-add
 slice-aggregate-add c =
     let start = c .before .before .before .before in
-    sym (length-take-le (c .before .equations .result) (start .args .block .now) (omega (arith, c .before .equations .ensures, start .pre .0)))
+    sym (length-take-le (c .before .equations .result) (start .args .block .now)
+    (omega (arith, c .before .equations .ensures, start .pre .0)))
 
 add-requires : tie.Need-add-requires
 add-requires c κs = search needs
@@ -57,9 +59,12 @@ array-read-put-with c = search needs
 
 put-with-requires-2 : tie.Need-put-with-requires-2
 put-with-requires-2 c κs =
-    let passed = c .before .before .before .before .before .before .before .before .before .before .before .before .before .before .before .before in (
-      c .before .before .before .before .before .before .before .before .before .before .before .put-with .kept .1 .1 .1 .0 ∙ passed .before .before .before .before .before .before .pre .0,
-      ap length (c .before .before .before .before .add2 .ensures) ∙ length-added (matrixOf (passed .before .before .before .before .before .before .args .subframe) .b) _ _ ∙ sums-long passed,
+    let more = c .before .before .before .before in
+    let first = more .before .before .before .before .before .before .before in
+    let passed = first .before .before .before .before .before in
+    let start = passed .before .before .before .before .before .before in (
+      first .put-with .kept .1 .1 .1 .0 ∙ start .pre .0,
+      ap length (more .add2 .ensures) ∙ length-added (matrixOf (start .args .subframe) .b) _ _ ∙ sums-long passed,
     )
 
 same-length : tie.Need-same-length
@@ -81,7 +86,7 @@ returns c =
     let sums-are : passed .add .last .1 .1 .1 .0 ≡ dataSums M s =
     passed .add .ensures ∙ rw (passed .before .before .before .equations .ensures, start .pre .1) in
     c .before .before .put-with2 .ensures
-    ∙ rw (more .add2 .ensures, first .put-with .ensures, data-is M s 0 (solved (M .t) _) long)
+    ∙ rw (more .add2 .ensures, first .put-with .ensures, data-is M s _ (solved (M .t) _) long)
     (parity-put M s _ _ long sums-are (more .before .before .before .last-sum .ensures ∙ ap (λ (l : List ℕ). lastSum M l % 2) (first .put-with .ensures)))
 
 pub put-parity-spec : {M : Type 1} → statement M

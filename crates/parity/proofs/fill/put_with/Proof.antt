@@ -56,19 +56,22 @@ solve-into-requires c κs =
 
 same-length : tie.Need-same-length
 same-length c =
-    let solved = c .before .before in
-    let start = solved .before .before .before .before .before in
-    let known = facts (solved .before .before) in
-    length-put (solved .before .before .equations .result) (start .args .block .now) (start .args .p1) (known .1) (known .0) (solved .solve-into .last .1 .1 .0)
-    (ap length (solved .solve-into .ensures) ∙ length-solved (matrixOf (start .args .subframe) .t) (start .args .sums .now) ∙ omega (arith, start .pre .1, solved .before .before .equations .ensures))
+    let put = c .before .before in
+    let known = put .before .before in
+    let start = known .before .before .before in
+    length-put (known .equations .result) (start .args .block .now) (start .args .p1) (facts known .1) (facts known .0)
+    (put .solve-into .last .1 .1 .0)
+    (ap length (put .solve-into .ensures) ∙ length-solved (matrixOf (start .args .subframe) .t) (start .args .sums .now)
+    ∙ omega (arith, start .pre .1, known .equations .ensures))
 
 returns : tie.Need-returns
 returns c =
-    let solved = c .before .before in
-    let start = solved .before .before .before .before .before in
-    let known = facts (solved .before .before) in
-    p2-put (solved .before .before .equations .result) (start .args .block .now) (start .args .p1) (known .1) (known .0) (solved .solve-into .last .1 .1 .0)
-    ∙ rw (solved .solve-into .ensures, solved .before .before .equations .ensures)
+    let put = c .before .before in
+    let known = put .before .before in
+    let start = known .before .before .before in
+    p2-put (known .equations .result) (start .args .block .now) (start .args .p1) (facts known .1) (facts known .0)
+    (put .solve-into .last .1 .1 .0)
+    ∙ rw (put .solve-into .ensures, known .equations .ensures)
 
 pub put-with-spec : {M : Type 1} → statement M
 put-with-spec =

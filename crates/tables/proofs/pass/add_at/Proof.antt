@@ -22,10 +22,16 @@ same-length : tie.Need-same-length
 same-length c = search needs
 
 returns : tie.Need-returns
-returns c = let s = c .before .before .before .before .args .symbols .now in let v = c .before .before .before .before .args .v in ap (λ (k : ℕ). set s k (bitXor (getD s k 0) v)) (c .before .before .index-of .ensures)
+returns c =
+    let start = c .before .before .before .before in
+    let s = start .args .symbols .now in
+    let v = start .args .v in
+    ap (λ (k : ℕ). set s k (bitXor (getD s k 0) v)) (c .before .before .index-of .ensures)
 
 returns-2 : tie.Need-returns-2
-returns-2 c = let s = c .before .before .before .args .symbols .now in sym (set-out s _ _ (omega (arith, c .before .index-of .ensures, c .if1 .left)))
+returns-2 c =
+    let s = c .before .before .before .args .symbols .now in
+    sym (set-out s _ _ (omega (arith, c .before .index-of .ensures, c .if1 .left)))
 
 pub add-at-spec : {M : Type 1} → statement M
 add-at-spec =

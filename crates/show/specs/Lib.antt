@@ -1,0 +1,2 @@
+-- The definitions that the contracts of `show` cite.
+pub mod Answers
