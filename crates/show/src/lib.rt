@@ -1,9 +1,11 @@
-// What the trial programs print: a line for each expectation, and whether it is so.
+// What the trial programs print: a line for each expectation, and whether it is so. Each function hands back whether it is so.
 ghost use mathlib.Core.Path.{_≡_};
 ghost use Rattle.show.specs.Answers.{isDone, isRefused};
 use words::refusal::Answer;
 
-pub fn expected(text: &[u8], so: bool) {
+pub fn expected(text: &[u8], so: bool) -> bool
+    ensures { λ r. ⌜ r ≡ so ⌝ }
+{
     if so {
         io::write_all(1, b"ok     ");
     } else {
@@ -11,6 +13,7 @@ pub fn expected(text: &[u8], so: bool) {
     }
     io::write_all(1, text);
     io::write_all(1, b"\n");
+    so
 }
 
 pub fn is_done(answer: Answer) -> bool
@@ -31,10 +34,14 @@ pub fn is_refused(answer: Answer, number: u8, place: usize) -> bool
     }
 }
 
-pub fn done(text: &[u8], answer: Answer) {
-    expected(text, is_done(answer));
+pub fn done(text: &[u8], answer: Answer) -> bool
+    ensures { λ r. ⌜ r ≡ isDone answer ⌝ }
+{
+    expected(text, is_done(answer))
 }
 
-pub fn refused(text: &[u8], answer: Answer, number: u8, place: usize) {
-    expected(text, is_refused(answer, number, place));
+pub fn refused(text: &[u8], answer: Answer, number: u8, place: usize) -> bool
+    ensures { λ r. ⌜ r ≡ isRefused answer number place ⌝ }
+{
+    expected(text, is_refused(answer, number, place))
 }
