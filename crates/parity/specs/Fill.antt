@@ -13,14 +13,14 @@ use Rattle.words.specs.declared.refusal.Answer.{Answer}
 use Rattle.words.specs.declared.refusal.Answer.the-variants.{Done}
 use Rattle.tables.specs.Coordinates.{rowSum, added, solved}
 use Rattle.tables.specs.Matrix.{Matrix, matrixOf}
-use Rattle.tables.specs.Rules.{product}
+use Rattle.tables.specs.Rules.{productOf}
 use Rattle.tables.specs.declared.matrix.Subframe.{Subframe}
 use Rattle.parity.specs.Lent.{judged}
 use Rattle.parity.specs.Equations.{dataOf, Meets, isBlock}
 
 -- A s
 unfoldable pub dataSums : Matrix → List ℕ → List ℕ
-dataSums M s = product (M .equations - 1) (M .a) s
+dataSums M s = productOf (M .equations - 1) (M .a) s
 
 -- p1 = (E T⁻¹ A + C) s
 unfoldable pub p1From : Matrix → List ℕ → ℕ

@@ -41,6 +41,7 @@ subframe2 = record { equations = 600; a = a2; b = b2; t = t2; c = c2; d = d2; e 
 abbrev pub subframe3 : Matrix
 subframe3 = record { equations = 274; a = a3; b = b3; t = t3; c = c3; d = d3; e = e3 }
 
+-- the matrix of a subframe
 abbrev pub matrixOf : Subframe → Matrix
 matrixOf Two = subframe2
 matrixOf Three = subframe3

@@ -13,9 +13,9 @@ use Rattle.tables.specs.T2.{t2}
 use Rattle.tables.specs.A3.{a3}
 use Rattle.tables.specs.T3.{t3}
 use Rattle.tables.specs.Matrix.{matrixOf, submatrixOf}
-use Rattle.tables.specs.Rules.{HasOne, timesListed, onesIn, HasTotals, rowsOf, columnsOf, IsInside, ByColumns, phi, IsProper}
+use Rattle.tables.specs.Rules.{HasOne, timesListed, totalIn, HasTotals, rowCount, columnCount, IsInside, ByColumns, phi, IsProper}
 use Rattle.tables.specs.Totals.{totalOf, a2-rows, a2-columns, t2-rows, t2-columns, a3-rows, a3-columns, t3-rows, t3-columns}
-use Rattle.tables.specs.Laws.Tests.{allInside, inside-tested, ascending, listed-once, byColumns, columns-tested, kept, totalsAre, totals-kept}
+use Rattle.tables.specs.Laws.Tests.{allInside, inside-tested, ascending, listed-once, byColumns, columns-tested, keptOnes, totalsAre, totals-kept}
 use Rattle.tables.specs.Laws.Triangle.{on-diagonal, none-over}
 use Rattle.tables.specs.declared.matrix.Subframe.{Subframe}
 use Rattle.tables.specs.declared.matrix.Subframe.the-variants.{Two, Three}
@@ -40,7 +40,7 @@ countOf Three E = 2
 -- the one computed test of a table's listing
 listing-test : (s : Subframe) (x : Submatrix)
     → (let m = submatrixOf (matrixOf s) x in
-    eqb (length m) (countOf s x) && (allInside (rowsOf (matrixOf s) x) (columnsOf (matrixOf s) x) m && ascending 0 m)) ≡ true
+    eqb (length m) (countOf s x) && (allInside (rowCount (matrixOf s) x) (columnCount (matrixOf s) x) m && ascending 0 m)) ≡ true
 unfolding a2 t2 a3 t3 ofSheets coordinates allInside ascending
 listing-test Two A = refl
 listing-test Two B = refl
@@ -56,12 +56,12 @@ listing-test Three D = refl
 listing-test Three E = refl
 
 -- Each table lists that many ones.
-pub counts : (s : Subframe) (x : Submatrix) → length (submatrixOf (matrixOf s) x) ≡ countOf s x
-counts s x = eqb-true _ _ (and-eq-true-iff _ _ .0 (listing-test s x) .0)
+pub table-counts : (s : Subframe) (x : Submatrix) → length (submatrixOf (matrixOf s) x) ≡ countOf s x
+table-counts s x = eqb-true _ _ (and-eq-true-iff _ _ .0 (listing-test s x) .0)
 
 -- Every coordinate is within its submatrix.
 pub all-inside : (s : Subframe) (x : Submatrix)
-    → IsInside (rowsOf (matrixOf s) x) (columnsOf (matrixOf s) x) (submatrixOf (matrixOf s) x)
+    → IsInside (rowCount (matrixOf s) x) (columnCount (matrixOf s) x) (submatrixOf (matrixOf s) x)
 all-inside s x =
     let m = submatrixOf (matrixOf s) x in
     inside-tested _ _ m (and-eq-true-iff _ (ascending 0 m) .0 (and-eq-true-iff (eqb (length m) (countOf s x)) _ .0 (listing-test s x) .1) .0)
@@ -91,19 +91,19 @@ t-none-above s i j = none-over _ i j (t-by-columns s)
 
 -- The rows and columns of A and T have the totals of Tables 6.2-14 to 6.2-17.
 pub table-6-2-14 : HasTotals 599 600 a2 a2-rows a2-columns
-unfolding a2 a2-rows a2-columns ofSheets coordinates totalsAre kept onesIn totalOf
+unfolding a2 a2-rows a2-columns ofSheets coordinates totalsAre keptOnes totalIn totalOf
 table-6-2-14 = totals-kept refl
 
 pub table-6-2-15 : HasTotals 599 599 t2 t2-rows t2-columns
-unfolding t2 t2-rows t2-columns ofSheets coordinates totalsAre kept onesIn totalOf
+unfolding t2 t2-rows t2-columns ofSheets coordinates totalsAre keptOnes totalIn totalOf
 table-6-2-15 = totals-kept refl
 
 pub table-6-2-16 : HasTotals 273 274 a3 a3-rows a3-columns
-unfolding a3 a3-rows a3-columns ofSheets coordinates totalsAre kept onesIn totalOf
+unfolding a3 a3-rows a3-columns ofSheets coordinates totalsAre keptOnes totalIn totalOf
 table-6-2-16 = totals-kept refl
 
 pub table-6-2-17 : HasTotals 273 273 t3 t3-rows t3-columns
-unfolding t3 t3-rows t3-columns ofSheets coordinates totalsAre kept onesIn totalOf
+unfolding t3 t3-rows t3-columns ofSheets coordinates totalsAre keptOnes totalIn totalOf
 table-6-2-17 = totals-kept refl
 
 -- φ is 1.

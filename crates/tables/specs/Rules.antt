@@ -13,46 +13,47 @@ use Rattle.tables.specs.declared.matrix.Submatrix.the-variants.{A, B, T,
 
 -- the matrix has a one in row i and column j
 pub data HasOne (i j : ℕ) : List Coordinate → Type 0 where
-  here : {i′ j′ : ℕ} {m : List Coordinate} → i ≡ i′ → j ≡ j′ → HasOne i j (rc i′ j′ ∷ m)
-  there : {o : Coordinate} {m : List Coordinate} → HasOne i j m → HasOne i j (o ∷ m)
+  at-first : {i′ j′ : ℕ} {m : List Coordinate} → i ≡ i′ → j ≡ j′ → HasOne i j (rc i′ j′ ∷ m)
+  at-later : {o : Coordinate} {m : List Coordinate} → HasOne i j m → HasOne i j (o ∷ m)
 
 -- how often a coordinate is listed
 unfoldable pub timesListed : List Coordinate → ℕ → ℕ → ℕ
 timesListed [] i j = 0
 timesListed (rc i′ j′ ∷ m) i j = cond (eqb i′ i && eqb j′ j) 1 0 + timesListed m i j
 
--- how many ones are in row r, and in column c
-abbrev pub rowOf : Coordinate → ℕ
-rowOf (rc i j) = i
+-- the row and the column of a one
+abbrev pub itsRow : Coordinate → ℕ
+itsRow (rc i j) = i
 
-abbrev pub columnOf : Coordinate → ℕ
-columnOf (rc i j) = j
+abbrev pub itsColumn : Coordinate → ℕ
+itsColumn (rc i j) = j
 
-unfoldable pub onesIn : (Coordinate → ℕ) → List Coordinate → ℕ → ℕ
-onesIn rowOrColumn [] k = 0
-onesIn rowOrColumn (o ∷ m) k = cond (eqb (rowOrColumn o) k) 1 0 + onesIn rowOrColumn m k
+-- how many ones are in row k, or in column k
+unfoldable pub totalIn : (Coordinate → ℕ) → List Coordinate → ℕ → ℕ
+totalIn rowOrColumn [] k = 0
+totalIn rowOrColumn (o ∷ m) k = cond (eqb (rowOrColumn o) k) 1 0 + totalIn rowOrColumn m k
 
 -- n rows and c columns have the totals that are listed for them
 pub record HasTotals (n c : ℕ) (m : List Coordinate) (rows columns : ℕ → ℕ) : Type 0 where
-  pub in-row : (r : ℕ) → 1 ≤ r → r ≤ n → onesIn rowOf m r ≡ rows r
-  pub in-column : (k : ℕ) → 1 ≤ k → k ≤ c → onesIn columnOf m k ≡ columns k
+  pub in-row : (r : ℕ) → 1 ≤ r → r ≤ n → totalIn itsRow m r ≡ rows r
+  pub in-column : (k : ℕ) → 1 ≤ k → k ≤ c → totalIn itsColumn m k ≡ columns k
 
 -- the rows and columns of a submatrix (3.2.3.4, Figure 3.2-5)
-abbrev pub rowsOf : Matrix → Submatrix → ℕ
-rowsOf M A = M .equations - 1
-rowsOf M B = M .equations - 1
-rowsOf M T = M .equations - 1
-rowsOf M C = 1
-rowsOf M D = 1
-rowsOf M E = 1
+abbrev pub rowCount : Matrix → Submatrix → ℕ
+rowCount M A = M .equations - 1
+rowCount M B = M .equations - 1
+rowCount M T = M .equations - 1
+rowCount M C = 1
+rowCount M D = 1
+rowCount M E = 1
 
-abbrev pub columnsOf : Matrix → Submatrix → ℕ
-columnsOf M A = M .equations
-columnsOf M B = 1
-columnsOf M T = M .equations - 1
-columnsOf M C = M .equations
-columnsOf M D = 1
-columnsOf M E = M .equations - 1
+abbrev pub columnCount : Matrix → Submatrix → ℕ
+columnCount M A = M .equations
+columnCount M B = 1
+columnCount M T = M .equations - 1
+columnCount M C = M .equations
+columnCount M D = 1
+columnCount M E = M .equations - 1
 
 -- every coordinate is within n rows and c columns
 pub record IsInside (n c : ℕ) (m : List Coordinate) : Type 0 where
@@ -62,20 +63,20 @@ pub record IsInside (n c : ℕ) (m : List Coordinate) : Type 0 where
 -- or it lies in a column that is done, below the rows that are; at the end all rows are done
 pub data ByColumns (n : ℕ) : ℕ → List Coordinate → Type 0 where
   finished : {d : ℕ} → d ≡ n → ByColumns n d []
-  diagonal : {d i j : ℕ} {m : List Coordinate} → i ≡ d + 1 → j ≡ d + 1 → ByColumns n (d + 1) m → ByColumns n d (rc i j ∷ m)
-  below : {d i j : ℕ} {m : List Coordinate} → 1 ≤ j → j ≤ d → d < i → i ≤ n → ByColumns n d m → ByColumns n d (rc i j ∷ m)
+  next-diagonal : {d i j : ℕ} {m : List Coordinate} → i ≡ d + 1 → j ≡ d + 1 → ByColumns n (d + 1) m → ByColumns n d (rc i j ∷ m)
+  beneath : {d i j : ℕ} {m : List Coordinate} → 1 ≤ j → j ≤ d → d < i → i ≤ n → ByColumns n d m → ByColumns n d (rc i j ∷ m)
 
 -- the product modulo 2 of a matrix of n rows and a column of symbols
-abbrev pub product : ℕ → List Coordinate → List ℕ → List ℕ
-product n m s = added m s (replicate n 0)
+abbrev pub productOf : ℕ → List Coordinate → List ℕ → List ℕ
+productOf n m s = added m s (replicate n 0)
 
 -- φ = E T⁻¹ B + D, modulo 2 (3.2.3.4)
 unfoldable pub phi : Matrix → ℕ
-phi M = (rowSum (M .e) (solved (M .t) (product (M .equations - 1) (M .b) (1 ∷ []))) 1 + rowSum (M .d) (1 ∷ []) 1) % 2
+phi M = (rowSum (M .e) (solved (M .t) (productOf (M .equations - 1) (M .b) (1 ∷ []))) 1 + rowSum (M .d) (1 ∷ []) 1) % 2
 
 -- what every law of the equations asks of a matrix
 pub record IsProper (M : Matrix) : Type 0 where
   pub some : 1 ≤ M .equations
-  pub within : (x : Submatrix) → IsInside (rowsOf M x) (columnsOf M x) (submatrixOf M x)
+  pub within : (x : Submatrix) → IsInside (rowCount M x) (columnCount M x) (submatrixOf M x)
   pub t-listed : ByColumns (M .equations - 1) 0 (M .t)
   pub phi-one : phi M ≡ 1

@@ -12,7 +12,7 @@ use Rattle.tables.specs.Matrix.{Matrix}
 use Rattle.parity.specs.Equations.{lastSum}
 use Rattle.parity.specs.Fill.{dataSums, p1From, p2From, withParity}
 use Rattle.parity.specs.Laws.Parts.{last-is, rest-part}
-use Rattle.parity.specs.Laws.Codewords.{nothing}
+use Rattle.parity.specs.Laws.Codewords.{zero-adds-nothing}
 
 pub none-taken : (a b : List ℕ) → take 0 a ≡ take 0 b
 none-taken [] [] = refl
@@ -63,4 +63,4 @@ parity-put M s sums p ls e f =
     ap₂ (λ (k : ℕ) (l : List ℕ). s ++ k ∷ solved (M .t) (added (M .b) (k ∷ []) l)) (f ∙ found) e
   where
     found : lastSum M (s ++ 0 ∷ solved (M .t) sums) % 2 ≡ p1From M s
-    found = rw e (omega (arith, last-is M s 0 (solved (M .t) (dataSums M s)) ls, nothing (M .d) 1))
+    found = rw e (omega (arith, last-is M s 0 (solved (M .t) (dataSums M s)) ls, zero-adds-nothing (M .d) 1))

@@ -12,7 +12,7 @@ use Rattle.words.specs.Laws.Digits.{no-bits, more-bits}
 use Rattle.words.specs.Laws.Sums.{length-sums, sums-at, sums-are}
 use Rattle.tables.specs.Coordinates.{Coordinate, rowSum, added, solved, symbolAt}
 use Rattle.tables.specs.Matrix.{Matrix}
-use Rattle.tables.specs.Rules.{product, phi, IsInside, IsProper}
+use Rattle.tables.specs.Rules.{productOf, phi, IsInside, IsProper}
 use Rattle.tables.specs.Laws.Passes.{length-added, length-solved}
 use Rattle.tables.specs.declared.matrix.Submatrix.the-variants.{A, B}
 use Rattle.parity.specs.Equations.{p2Of, Meets}
@@ -20,27 +20,27 @@ use Rattle.parity.specs.Fill.{dataSums, p1From, p2From, withParity, IsCo
 use Rattle.parity.specs.Laws.Zeros.{zero-at, zeros-bits}
 use Rattle.parity.specs.Laws.Rows.{sum-zeros, sum-linear, added-right, added-bits, solved-bits}
 use Rattle.parity.specs.Laws.Substitution.{same-solution, solved-right}
-use Rattle.parity.specs.Laws.Parts.{upper, lower, data-is, parts-meet, upper-met, lower-met, put-together, bits-append, bits-drop}
+use Rattle.parity.specs.Laws.Parts.{upperOf, lowerOf, data-is, parts-meet, upper-met, lower-met, put-together, bits-append, bits-drop}
 
 -- a p1 of 0 adds nothing
-pub nothing : (m : List Coordinate) (r : ℕ) → rowSum m (0 ∷ []) r ≡ 0
-nothing m r = sum-zeros m (0 ∷ []) r (zero-at 1)
+pub zero-adds-nothing : (m : List Coordinate) (r : ℕ) → rowSum m (0 ∷ []) r ≡ 0
+zero-adds-nothing m r = sum-zeros m (0 ∷ []) r (zero-at 1)
 
 -- ---- products
 
 product-right : (n c : ℕ) (m : List Coordinate) → IsInside n c m → (s : List ℕ) (r : ℕ) → 1 ≤ r → r ≤ n
-    → symbolAt (product n m s) r % 2 ≡ rowSum m s r % 2
+    → symbolAt (productOf n m s) r % 2 ≡ rowSum m s r % 2
 product-right n c m w s r lo hi =
     omega (arith, added-right n c m w s (replicate n 0) (omega (arith, length-replicate {A = ℕ} n 0)) r lo hi, zero-at n (r - 1))
 
-length-product : (n : ℕ) (m : List Coordinate) (s : List ℕ) → length (product n m s) ≡ n
+length-product : (n : ℕ) (m : List Coordinate) (s : List ℕ) → length (productOf n m s) ≡ n
 length-product n m s = length-added m s (replicate n 0) ∙ length-replicate n 0
 
 module _ (M : Matrix) (g : IsProper M) where
   -- the upper equations determine p2, given the data and p1
   same-p2 : (s : List ℕ) (p q q′ : List ℕ) → IsBits q → IsBits q′ → length q ≡ M .equations - 1 → length q′ ≡ M .equations - 1
-      → ((r : ℕ) → 1 ≤ r → r ≤ M .equations - 1 → upper M s p q r % 2 ≡ 0)
-      → ((r : ℕ) → 1 ≤ r → r ≤ M .equations - 1 → upper M s p q′ r % 2 ≡ 0) → q ≡ q′
+      → ((r : ℕ) → 1 ≤ r → r ≤ M .equations - 1 → upperOf M s p q r % 2 ≡ 0)
+      → ((r : ℕ) → 1 ≤ r → r ≤ M .equations - 1 → upperOf M s p q′ r % 2 ≡ 0) → q ≡ q′
   same-p2 s p q q′ bq bq′ lq lq′ up up′ =
       ext-getD 0 q q′ (lq ∙ sym lq′)
       (λ k h. same-solution (M .equations - 1) (g .t-listed) q q′ bq bq′ (λ k h. absurd (omega arith))
@@ -48,7 +48,7 @@ module _ (M : Matrix) (g : IsProper M) where
 
   -- T⁻¹ B: what p2 turns by when p1 does
   abbrev turn : List ℕ
-  turn = solved (M .t) (product (M .equations - 1) (M .b) (1 ∷ []))
+  turn = solved (M .t) (productOf (M .equations - 1) (M .b) (1 ∷ []))
 
   length-turn : length turn ≡ M .equations - 1
   length-turn = length-solved (M .t) _ ∙ length-product (M .equations - 1) (M .b) (1 ∷ [])
@@ -60,16 +60,16 @@ module _ (M : Matrix) (g : IsProper M) where
 
   -- the sum of the last equation turns with p1, where the upper equations are met: that is what φ = 1 says
   crossed : (s q q′ : List ℕ) → IsBits q → IsBits q′ → length q ≡ M .equations - 1 → length q′ ≡ M .equations - 1
-      → ((r : ℕ) → 1 ≤ r → r ≤ M .equations - 1 → upper M s (0 ∷ []) q r % 2 ≡ 0)
-      → ((r : ℕ) → 1 ≤ r → r ≤ M .equations - 1 → upper M s (1 ∷ []) q′ r % 2 ≡ 0)
-      → (lower M s (0 ∷ []) q + lower M s (1 ∷ []) q′) % 2 ≡ 1
+      → ((r : ℕ) → 1 ≤ r → r ≤ M .equations - 1 → upperOf M s (0 ∷ []) q r % 2 ≡ 0)
+      → ((r : ℕ) → 1 ≤ r → r ≤ M .equations - 1 → upperOf M s (1 ∷ []) q′ r % 2 ≡ 0)
+      → (lowerOf M s (0 ∷ []) q + lowerOf M s (1 ∷ []) q′) % 2 ≡ 1
   unfolding phi
   crossed s q q′ bq bq′ lq lq′ up up′ =
       omega (
         arith,
         ap (λ (l : List ℕ). rowSum (M .e) l 1) turned,
         linear (M .e) 1,
-        nothing (M .d) 1,
+        zero-adds-nothing (M .d) 1,
         g .phi-one,
       )
     where
@@ -79,7 +79,7 @@ module _ (M : Matrix) (g : IsProper M) where
       turned : q′ ≡ sums q turn
       turned =
           same-p2 s (1 ∷ []) q′ (sums q turn) bq′ (sums-are q turn) lq′ (length-sums q turn (lq ∙ sym length-turn) ∙ lq) up′
-          (λ r lo hi. omega (arith, up r lo hi, linear (M .t) r, turn-rows r lo hi, nothing (M .b) r))
+          (λ r lo hi. omega (arith, up r lo hi, linear (M .t) r, turn-rows r lo hi, zero-adds-nothing (M .b) r))
 
   -- ---- the parity meets every equation
 
@@ -95,7 +95,7 @@ module _ (M : Matrix) (g : IsProper M) where
     -- T⁻¹ y, with y the sums of A and B, meets the upper equations
     solved-meets : (p y : List ℕ) → length y ≡ M .equations - 1
         → ((r : ℕ) → 1 ≤ r → r ≤ M .equations - 1 → symbolAt y r % 2 ≡ (symbolAt (dataSums M s) r + rowSum (M .b) p r) % 2)
-        → (r : ℕ) → 1 ≤ r → r ≤ M .equations - 1 → upper M s p (solved (M .t) y) r % 2 ≡ 0
+        → (r : ℕ) → 1 ≤ r → r ≤ M .equations - 1 → upperOf M s p (solved (M .t) y) r % 2 ≡ 0
     unfolding dataSums
     solved-meets p y ly rows r lo hi =
         omega (
@@ -117,7 +117,7 @@ module _ (M : Matrix) (g : IsProper M) where
     unfolding p2From
     p2-bits = solved-bits (M .t) _ (added-bits (M .b) _ _ (more-bits p1-bit no-bits) data-bits)
 
-    p2-meets : (r : ℕ) → 1 ≤ r → r ≤ M .equations - 1 → upper M s (p1From M s ∷ []) (p2From M s) r % 2 ≡ 0
+    p2-meets : (r : ℕ) → 1 ≤ r → r ≤ M .equations - 1 → upperOf M s (p1From M s ∷ []) (p2From M s) r % 2 ≡ 0
     unfolding p2From
     p2-meets =
         solved-meets (p1From M s ∷ []) (added (M .b) (p1From M s ∷ []) (dataSums M s))
@@ -128,22 +128,22 @@ module _ (M : Matrix) (g : IsProper M) where
     abbrev q₀ : List ℕ
     q₀ = solved (M .t) (dataSums M s)
 
-    q₀-meets : (r : ℕ) → 1 ≤ r → r ≤ M .equations - 1 → upper M s (0 ∷ []) q₀ r % 2 ≡ 0
+    q₀-meets : (r : ℕ) → 1 ≤ r → r ≤ M .equations - 1 → upperOf M s (0 ∷ []) q₀ r % 2 ≡ 0
     q₀-meets =
         solved-meets (0 ∷ []) (dataSums M s) length-data
-        (λ r lo hi. omega (arith, nothing (M .b) r))
+        (λ r lo hi. omega (arith, zero-adds-nothing (M .b) r))
 
-    p1-is : p1From M s ≡ lower M s (0 ∷ []) q₀ % 2
+    p1-is : p1From M s ≡ lowerOf M s (0 ∷ []) q₀ % 2
     unfolding p1From
-    p1-is = omega (arith, nothing (M .d) 1)
+    p1-is = omega (arith, zero-adds-nothing (M .d) 1)
 
-    last-meets : lower M s (p1From M s ∷ []) (p2From M s) % 2 ≡ 0
+    last-meets : lowerOf M s (p1From M s ∷ []) (p2From M s) % 2 ≡ 0
     last-meets = go (p1From M s) refl p1-bit
       where
         length-q₀ : length q₀ ≡ M .equations - 1
         length-q₀ = length-solved (M .t) (dataSums M s) ∙ length-data
 
-        go : (p : ℕ) → p1From M s ≡ p → p < 2 → lower M s (p ∷ []) (p2From M s) % 2 ≡ 0
+        go : (p : ℕ) → p1From M s ≡ p → p < 2 → lowerOf M s (p ∷ []) (p2From M s) % 2 ≡ 0
         go zero e h =
             rw (← same-p2 s (0 ∷ []) q₀ (p2From M s) (solved-bits (M .t) _ data-bits) p2-bits length-q₀ length-p2 q₀-meets (rw e at p2-meets))
             (sym p1-is ∙ e)
@@ -170,9 +170,9 @@ module _ (M : Matrix) (g : IsProper M) where
 
   same-parity : (s : List ℕ) (p p′ : ℕ) (q q′ : List ℕ) → p < 2 → p′ < 2 → IsBits q → IsBits q′
       → length q ≡ M .equations - 1 → length q′ ≡ M .equations - 1
-      → ((r : ℕ) → 1 ≤ r → r ≤ M .equations - 1 → upper M s (p ∷ []) q r % 2 ≡ 0)
-      → ((r : ℕ) → 1 ≤ r → r ≤ M .equations - 1 → upper M s (p′ ∷ []) q′ r % 2 ≡ 0)
-      → lower M s (p ∷ []) q % 2 ≡ 0 → lower M s (p′ ∷ []) q′ % 2 ≡ 0 → p ∷ q ≡ p′ ∷ q′
+      → ((r : ℕ) → 1 ≤ r → r ≤ M .equations - 1 → upperOf M s (p ∷ []) q r % 2 ≡ 0)
+      → ((r : ℕ) → 1 ≤ r → r ≤ M .equations - 1 → upperOf M s (p′ ∷ []) q′ r % 2 ≡ 0)
+      → lowerOf M s (p ∷ []) q % 2 ≡ 0 → lowerOf M s (p′ ∷ []) q′ % 2 ≡ 0 → p ∷ q ≡ p′ ∷ q′
   same-parity s zero zero q q′ hp hp′ bq bq′ lq lq′ up up′ low low′ =
       ap (λ (l : List ℕ). 0 ∷ l) (same-p2 s (0 ∷ []) q q′ bq bq′ lq lq′ up up′)
   same-parity s (suc zero) (suc zero) q q′ hp hp′ bq bq′ lq lq′ up up′ low low′ =

@@ -13,7 +13,7 @@ use Rattle.words.specs.Bits.{IsBits}
 use Rattle.words.specs.Laws.Digits.{first-bit, other-bits, more-bits}
 use Rattle.tables.specs.Coordinates.{rowSum}
 use Rattle.tables.specs.Matrix.{Matrix}
-use Rattle.tables.specs.Laws.Cases.{lt-or-ge}
+use Rattle.tables.specs.Laws.Cases.{before-or-not}
 use Rattle.parity.specs.Equations.{dataOf, p1Of, p2Of, lastSum, equationSum, Meets}
 
 -- ---- bits of parts
@@ -30,11 +30,11 @@ bits-drop (suc n) (x ∷ l) h = bits-drop n l (other-bits h)
 
 -- ---- the sums of the rows, by parts
 
-abbrev pub upper : Matrix → List ℕ → List ℕ → List ℕ → ℕ → ℕ
-upper M s p q r = rowSum (M .a) s r + rowSum (M .b) p r + rowSum (M .t) q r
+abbrev pub upperOf : Matrix → List ℕ → List ℕ → List ℕ → ℕ → ℕ
+upperOf M s p q r = rowSum (M .a) s r + rowSum (M .b) p r + rowSum (M .t) q r
 
-abbrev pub lower : Matrix → List ℕ → List ℕ → List ℕ → ℕ
-lower M s p q = rowSum (M .c) s 1 + rowSum (M .d) p 1 + rowSum (M .e) q 1
+abbrev pub lowerOf : Matrix → List ℕ → List ℕ → List ℕ → ℕ
+lowerOf M s p q = rowSum (M .c) s 1 + rowSum (M .d) p 1 + rowSum (M .e) q 1
 
 -- a block that was put together, by its parts
 module _ (M : Matrix) (s : List ℕ) (p : ℕ) (q : List ℕ) (ls : length s ≡ M .equations) where
@@ -47,32 +47,32 @@ module _ (M : Matrix) (s : List ℕ) (p : ℕ) (q : List ℕ) (ls : length s ≡
   p2-is : p2Of M (s ++ p ∷ q) ≡ q
   p2-is = sym (drop-drop 1 (M .equations) (s ++ p ∷ q)) ∙ ap (drop 1) (drop-at s (p ∷ q) (M .equations) ls)
 
-  upper-is : (r : ℕ) → r < M .equations → equationSum M (s ++ p ∷ q) r ≡ upper M s (p ∷ []) q r
+  upper-is : (r : ℕ) → r < M .equations → equationSum M (s ++ p ∷ q) r ≡ upperOf M s (p ∷ []) q r
   unfolding equationSum
   upper-is r h = rw (lt-ltb r (M .equations) h, data-is, p1-is, p2-is)
 
-  pub last-is : lastSum M (s ++ p ∷ q) ≡ lower M s (p ∷ []) q
+  pub last-is : lastSum M (s ++ p ∷ q) ≡ lowerOf M s (p ∷ []) q
   last-is = rw (data-is, p1-is, p2-is)
 
-  lower-is : (r : ℕ) → M .equations ≤ r → equationSum M (s ++ p ∷ q) r ≡ lower M s (p ∷ []) q
+  lower-is : (r : ℕ) → M .equations ≤ r → equationSum M (s ++ p ∷ q) r ≡ lowerOf M s (p ∷ []) q
   unfolding equationSum
   lower-is r h = rw (le-ltb r (M .equations) h) last-is
 
   -- it meets every equation exactly if its parts do
-  pub parts-meet : ((r : ℕ) → 1 ≤ r → r ≤ M .equations - 1 → upper M s (p ∷ []) q r % 2 ≡ 0)
-      → lower M s (p ∷ []) q % 2 ≡ 0 → Meets M (s ++ p ∷ q)
+  pub parts-meet : ((r : ℕ) → 1 ≤ r → r ≤ M .equations - 1 → upperOf M s (p ∷ []) q r % 2 ≡ 0)
+      → lowerOf M s (p ∷ []) q % 2 ≡ 0 → Meets M (s ++ p ∷ q)
   parts-meet up low =
       record {
         met = λ r lo hi. ⊎-elim
             (λ (h : r < M .equations). omega (arith, upper-is r h, up r lo (omega arith)))
             (λ (h : M .equations ≤ r). omega (arith, lower-is r h, low))
-            (lt-or-ge r (M .equations));
+            (before-or-not r (M .equations));
       }
 
-  pub upper-met : Meets M (s ++ p ∷ q) → (r : ℕ) → 1 ≤ r → r ≤ M .equations - 1 → upper M s (p ∷ []) q r % 2 ≡ 0
+  pub upper-met : Meets M (s ++ p ∷ q) → (r : ℕ) → 1 ≤ r → r ≤ M .equations - 1 → upperOf M s (p ∷ []) q r % 2 ≡ 0
   upper-met m r lo hi = omega (arith, upper-is r (omega arith), m .met r lo (omega arith))
 
-  pub lower-met : 1 ≤ M .equations → Meets M (s ++ p ∷ q) → lower M s (p ∷ []) q % 2 ≡ 0
+  pub lower-met : 1 ≤ M .equations → Meets M (s ++ p ∷ q) → lowerOf M s (p ∷ []) q % 2 ≡ 0
   lower-met some m = omega (arith, lower-is (M .equations) (omega arith), m .met (M .equations) some (omega arith))
 
 -- a block is its parts, put together

@@ -12,7 +12,7 @@ use Rattle.tables.specs.Coordinates.{rowSum, added, symbolAt}
 use Rattle.tables.specs.Matrix.{Matrix, submatrixOf}
 use Rattle.tables.specs.Rules.{IsInside, IsProper}
 use Rattle.tables.specs.Laws.Passes.{length-added}
-use Rattle.tables.specs.Laws.Cases.{lt-or-ge}
+use Rattle.tables.specs.Laws.Cases.{before-or-not}
 use Rattle.tables.specs.declared.matrix.Submatrix.{Submatrix}
 use Rattle.tables.specs.declared.matrix.Submatrix.the-variants.{A, B, T, C, D, E}
 use Rattle.parity.specs.Equations.{dataOf, p1Of, p2Of, lastSum, equationSum, firstOdd, firstUnmet}
@@ -66,7 +66,7 @@ module _ (M : Matrix) (g : IsProper M) (x : List ℕ) where
 
   sum-at : (r : ℕ) → 1 ≤ r → r ≤ M .equations → symbolAt (equationSums M x) r % 2 ≡ equationSum M x r % 2
   unfolding equationSum
-  sum-at r lo hi = ⊎-elim above last (lt-or-ge r (M .equations))
+  sum-at r lo hi = ⊎-elim above last (before-or-not r (M .equations))
     where
       upper : List ℕ
       upper = sideBySide M A B T x (replicate (M .equations) 0)

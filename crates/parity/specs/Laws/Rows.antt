@@ -14,7 +14,7 @@ use borrow.Author.Tests.{eq-eqb, ne-eqb}
 use Rattle.words.specs.Bits.{IsBits}
 use Rattle.words.specs.Laws.Digits.{first-bit, other-bits, more-bits}
 use Rattle.tables.specs.Coordinates.{Coordinate, rc, symbolAt, rowSum, addedAt, added, substituted, solved}
-use Rattle.tables.specs.Rules.{IsInside, here, there}
+use Rattle.tables.specs.Rules.{IsInside, at-first, at-later}
 use Rattle.tables.specs.Laws.Cases.{same-or-not}
 
 -- the parity of an exclusive or is that of the sum
@@ -62,7 +62,7 @@ solved-bits (rc i j ∷ m) y b = solved-bits m _ (substituted-bits y i j b)
 -- ---- inside
 
 inside-rest : {n c i j : ℕ} {m : List Coordinate} → IsInside n c (rc i j ∷ m) → IsInside n c m
-inside-rest h = record { inside = λ i j o. h .inside i j (there o) }
+inside-rest h = record { inside = λ i j o. h .inside i j (at-later o) }
 
 -- one pass adds to each row's sum the symbols at its ones, modulo 2
 pub added-right : (n c : ℕ) (m : List Coordinate) → IsInside n c m → (s acc : List ℕ) → n ≤ length acc → (r : ℕ) → 1 ≤ r → r ≤ n
@@ -71,7 +71,7 @@ unfolding added rowSum
 added-right n c [] w s acc la r lo hi = omega arith
 added-right n c (rc i j ∷ m) w s acc la r lo hi =
     let v : ℕ = bitXor (symbolAt acc i) (symbolAt s j) in
-    let at = w .inside i j (here refl refl) in
+    let at = w .inside i j (at-first refl refl) in
     let rest : symbolAt (added m s (set acc (i - 1) v)) r % 2 ≡ (symbolAt (set acc (i - 1) v) r + rowSum m s r) % 2
     = added-right n c m (inside-rest w) s (set acc (i - 1) v) (omega (arith, length-set acc (i - 1) v)) r lo hi in
     ⊎-elim

@@ -11,7 +11,7 @@ use lib.Seq.{getD-set-same, getD-set-other}
 use borrow.Author.Tests.{eq-eqb, ne-eqb}
 use Rattle.words.specs.Bits.{IsBits}
 use Rattle.tables.specs.Coordinates.{Coordinate, symbolAt, rowSum, addedAt, substituted, solved}
-use Rattle.tables.specs.Rules.{ByColumns, finished, diagonal, below}
+use Rattle.tables.specs.Rules.{ByColumns, finished, next-diagonal, beneath}
 use Rattle.tables.specs.Laws.Cases.{same-or-not}
 use Rattle.parity.specs.Laws.Rows.{xor-parity, sum-same, sum-other}
 
@@ -19,13 +19,13 @@ use Rattle.parity.specs.Laws.Rows.{xor-parity, sum-same, sum-other}
 no-row : (n : ℕ) {d : ℕ} {m : List Coordinate} → ByColumns n d m → (s : List ℕ) (r : ℕ) → r ≤ d → rowSum m s r ≡ 0
 unfolding rowSum
 no-row n (finished e) s r h = refl
-no-row n (diagonal {d} {i} {j} {m} ei ej t) s r h = sum-other i j m s r (omega arith) ∙ no-row n t s r (omega arith)
-no-row n (below {d} {i} {j} {m} one seen low most t) s r h = sum-other i j m s r (omega arith) ∙ no-row n t s r h
+no-row n (next-diagonal {d} {i} {j} {m} ei ej t) s r h = sum-other i j m s r (omega arith) ∙ no-row n t s r (omega arith)
+no-row n (beneath {d} {i} {j} {m} one seen low most t) s r h = sum-other i j m s r (omega arith) ∙ no-row n t s r h
 
 done-le : (n : ℕ) {d : ℕ} {m : List Coordinate} → ByColumns n d m → d ≤ n
 done-le n (finished e) = omega arith
-done-le n (diagonal ei ej t) = omega (arith, done-le n t)
-done-le n (below one seen low most t) = done-le n t
+done-le n (next-diagonal ei ej t) = omega (arith, done-le n t)
+done-le n (beneath one seen low most t) = done-le n t
 
 -- ---- the solution is the only one
 
@@ -39,7 +39,7 @@ pub same-solution : (n : ℕ) {d : ℕ} {m : List Coordinate} → ByColumns n d 
     → ((r : ℕ) → d < r → r ≤ n → rowSum m x r % 2 ≡ rowSum m y r % 2)
     → (k : ℕ) → k < n → getD x k 0 ≡ getD y k 0
 same-solution n (finished e) x y bx by same rows = λ k h. same k (omega arith)
-same-solution n (diagonal {d} {i} {j} {m} ei ej t) x y bx by same rows =
+same-solution n (next-diagonal {d} {i} {j} {m} ei ej t) x y bx by same rows =
     same-solution n t x y bx by (one-more (λ k. getD x k 0 ≡ getD y k 0) d same here)
     (λ r lo hi. rw (← sum-other i j m x r (omega arith), ← sum-other i j m y r (omega arith)) (rows r (omega arith) hi))
   where
@@ -59,7 +59,7 @@ same-solution n (diagonal {d} {i} {j} {m} ei ej t) x y bx by same rows =
           bx .bit (j - 1),
           by .bit (j - 1),
         ))
-same-solution n (below {d} {i} {j} {m} one seen low most t) x y bx by same rows =
+same-solution n (beneath {d} {i} {j} {m} one seen low most t) x y bx by same rows =
     same-solution n t x y bx by same
     (λ r lo hi. ⊎-elim
     (λ e. omega (arith, rows r lo hi, sum-same i j m x r e, sum-same i j m y r e, same (j - 1) (omega arith)))
@@ -79,9 +79,9 @@ solved-kept : (n : ℕ) {d : ℕ} {m : List Coordinate} → ByColumns n d m → 
     → getD (solved m y) k 0 ≡ getD y k 0
 unfolding solved
 solved-kept n (finished e) y k h = refl
-solved-kept n (diagonal {d} {i} {j} {m} ei ej t) y k h =
+solved-kept n (next-diagonal {d} {i} {j} {m} ei ej t) y k h =
     rw (on-diagonal y i j (omega arith)) (solved-kept n t y k (omega arith))
-solved-kept n (below {d} {i} {j} {m} one seen low most t) y k h =
+solved-kept n (beneath {d} {i} {j} {m} one seen low most t) y k h =
     rw (under-diagonal y i j (omega arith))
     (solved-kept n t _ k h ∙ getD-set-other y (i - 1) k (bitXor (symbolAt y i) (symbolAt y j)) 0 (omega arith))
 
@@ -90,7 +90,7 @@ pub solved-right : (n : ℕ) {d : ℕ} {m : List Coordinate} → ByColumns n d m
     → (r : ℕ) → d < r → r ≤ n → rowSum m (solved m y) r % 2 ≡ symbolAt y r % 2
 unfolding solved
 solved-right n (finished e) y ly r lo hi = absurd (omega arith)
-solved-right n (diagonal {d} {i} {j} {m} ei ej t) y ly r lo hi =
+solved-right n (next-diagonal {d} {i} {j} {m} ei ej t) y ly r lo hi =
     rw (on-diagonal y i j (omega arith))
     (⊎-elim
     (λ (e : i ≡ r). omega (
@@ -103,7 +103,7 @@ solved-right n (diagonal {d} {i} {j} {m} ei ej t) y ly r lo hi =
     ))
     (λ (ne : i ≢ r). omega (arith, sum-other i j m (solved m y) r ne, solved-right n t y ly r (omega arith) hi))
     (same-or-not i r))
-solved-right n (below {d} {i} {j} {m} one seen low most t) y ly r lo hi =
+solved-right n (beneath {d} {i} {j} {m} one seen low most t) y ly r lo hi =
     let v : ℕ = bitXor (symbolAt y i) (symbolAt y j) in
     let y′ : List ℕ = set y (i - 1) v in
     let rest : rowSum m (solved m y′) r % 2 ≡ symbolAt y′ r % 2 = solved-right n t y′ (length-set y (i - 1) v ∙ ly) r lo hi in

@@ -14,8 +14,8 @@ same-or-not a b = go (eqb a b) refl
     go true e = inl (eqb-true a b e)
     go false e = inr (eqb-false a b e)
 
-pub lt-or-ge : (a b : ℕ) → (a < b) ⊎ (b ≤ a)
-lt-or-ge a b = go (ltb a b) refl
+pub before-or-not : (a b : ℕ) → (a < b) ⊎ (b ≤ a)
+before-or-not a b = go (ltb a b) refl
   where
     go : (t : Bool) → ltb a b ≡ t → (a < b) ⊎ (b ≤ a)
     go true e = inl (ltb-true a b e)

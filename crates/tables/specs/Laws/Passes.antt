@@ -11,7 +11,7 @@ use lib.Dec.{eqb}
 use lib.ListN.{length, getD, drop, length-set, drop-of-length-le}
 use lib.Seq.{drop-cons}
 use Rattle.tables.specs.Coordinates.{Coordinate, rc, coordinates, ofSheets, symbolAt, addedAt, added, substituted, solved}
-use Rattle.tables.specs.Laws.Cases.{lt-or-ge}
+use Rattle.tables.specs.Laws.Cases.{before-or-not}
 
 pub length-substituted : (y : List ℕ) (i j : ℕ) → length (substituted y i j) ≡ length y
 length-substituted y i j = go (eqb i j)
@@ -43,7 +43,7 @@ coordinates-end t k h =
     ⊎-elim
     (λ (lt : k < length t). rw (drop-cons t k 0 lt, drop-of-length-le t {i = suc k} (omega arith)))
     (λ (ge : length t ≤ k). rw (drop-of-length-le t {i = k} ge))
-    (lt-or-ge k (length t))
+    (before-or-not k (length t))
 
 pub added-at : (t s acc : List ℕ) (k : ℕ) → k + 1 < length t
     → added (coordinates (drop k t)) s acc

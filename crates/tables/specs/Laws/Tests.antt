@@ -10,8 +10,8 @@ use native.Mathlib.Omega.{arith}
 use lib.Dec.{eqb, leb, ltb}
 use borrow.Author.Tests.{eqb-true, leb-true, ltb-true, lt-ltb, le-leb}
 use Rattle.tables.specs.Coordinates.{Coordinate, rc}
-use Rattle.tables.specs.Rules.{HasOne, here, there, timesListed, rowOf, columnOf, onesIn, HasTotals, IsInside, ByColumns, finished, diagonal, below}
-use Rattle.tables.specs.Laws.Cases.{lt-or-ge}
+use Rattle.tables.specs.Rules.{HasOne, at-first, at-later, timesListed, itsRow, itsColumn, totalIn, HasTotals, IsInside, ByColumns, finished, next-diagonal, beneath}
+use Rattle.tables.specs.Laws.Cases.{before-or-not}
 
 -- ---- every coordinate is within n rows and c columns
 
@@ -25,13 +25,13 @@ both a b h = and-eq-true-iff a b .0 h
 inside-at : (n c : ℕ) (m : List Coordinate) → allInside n c m ≡ true → (i j : ℕ) → HasOne i j m
     → (1 ≤ i) × (i ≤ n) × (1 ≤ j) × (j ≤ c)
 unfolding allInside
-inside-at n c (rc i′ j′ ∷ m) h i j (here a b) =
+inside-at n c (rc i′ j′ ∷ m) h i j (at-first a b) =
     let h₁ = both (leb 1 i′) _ h in
     let h₂ = both (leb i′ n) _ (h₁ .1) in
     let h₃ = both (leb 1 j′) _ (h₂ .1) in
     let h₄ = both (leb j′ c) _ (h₃ .1) in
     rw (a, b) (leb-true 1 i′ (h₁ .0), leb-true i′ n (h₂ .0), leb-true 1 j′ (h₃ .0), leb-true j′ c (h₄ .0))
-inside-at n c (rc i′ j′ ∷ m) h i j (there o) =
+inside-at n c (rc i′ j′ ∷ m) h i j (at-later o) =
     let h₁ = both (leb 1 i′) _ h in
     let h₂ = both (leb i′ n) _ (h₁ .1) in
     let h₃ = both (leb 1 j′) _ (h₂ .1) in
@@ -93,64 +93,64 @@ columns-tested n d (rc i j ∷ m) h = go (eqb i j) refl h (columns-tested n i m)
     go true e h f g =
         let h₁ = both (eqb i (d + 1)) _ h in
         let ei : i ≡ d + 1 = eqb-true i (d + 1) (h₁ .0) in
-        diagonal ei (sym (eqb-true i j e) ∙ ei) (subst (λ (v : ℕ). ByColumns n v m) ei (f (h₁ .1)))
+        next-diagonal ei (sym (eqb-true i j e) ∙ ei) (subst (λ (v : ℕ). ByColumns n v m) ei (f (h₁ .1)))
     go false e h f g =
         let h₁ = both (leb 1 j) _ h in
         let h₂ = both (leb j d) _ (h₁ .1) in
         let h₃ = both (ltb d i) _ (h₂ .1) in
         let h₄ = both (leb i n) _ (h₃ .1) in
-        below (leb-true 1 j (h₁ .0)) (leb-true j d (h₂ .0)) (ltb-true d i (h₃ .0)) (leb-true i n (h₄ .0)) (g (h₄ .1))
+        beneath (leb-true 1 j (h₁ .0)) (leb-true j d (h₂ .0)) (ltb-true d i (h₃ .0)) (leb-true i n (h₄ .0)) (g (h₄ .1))
 
 -- ---- the ones of each row or column, counted by halves: those before the middle, and those from it on
 
-unfoldable pub kept : (Coordinate → Bool) → List Coordinate → List Coordinate
-kept test [] = []
-kept test (o ∷ m) = cond (test o) (o ∷ kept test m) (kept test m)
+unfoldable pub keptOnes : (Coordinate → Bool) → List Coordinate → List Coordinate
+keptOnes test [] = []
+keptOnes test (o ∷ m) = cond (test o) (o ∷ keptOnes test m) (keptOnes test m)
 
 unfoldable pub totalsAre : (Coordinate → ℕ) → (ℕ → ℕ) → ℕ → ℕ → ℕ → List Coordinate → Bool
-totalsAre key total n zero from m = cond (leb 1 from && leb from n) (eqb (onesIn key m from) (total from)) true
+totalsAre key total n zero from m = cond (leb 1 from && leb from n) (eqb (totalIn key m from) (total from)) true
 totalsAre key total n (suc halvings) from m =
-    totalsAre key total n halvings from (kept (λ o. ltb (key o) (from + 2 ^ halvings)) m)
-    && totalsAre key total n halvings (from + 2 ^ halvings) (kept (λ o. leb (from + 2 ^ halvings) (key o)) m)
+    totalsAre key total n halvings from (keptOnes (λ o. ltb (key o) (from + 2 ^ halvings)) m)
+    && totalsAre key total n halvings (from + 2 ^ halvings) (keptOnes (λ o. leb (from + 2 ^ halvings) (key o)) m)
 
 kept-ones : (key : Coordinate → ℕ) (test : Coordinate → Bool) (k : ℕ) → ((o : Coordinate) → key o ≡ k → test o ≡ true)
-    → (m : List Coordinate) → onesIn key (kept test m) k ≡ onesIn key m k
-unfolding kept onesIn
+    → (m : List Coordinate) → totalIn key (keptOnes test m) k ≡ totalIn key m k
+unfolding keptOnes totalIn
 kept-ones key test k h [] = refl
 kept-ones key test k h (o ∷ m) = one (eqb (key o) k) (test o) refl refl (kept-ones key test k h m)
   where
-    one : (s t : Bool) → eqb (key o) k ≡ s → test o ≡ t → onesIn key (kept test m) k ≡ onesIn key m k
-        → onesIn key (cond t (o ∷ kept test m) (kept test m)) k ≡ cond s 1 0 + onesIn key m k
+    one : (s t : Bool) → eqb (key o) k ≡ s → test o ≡ t → totalIn key (keptOnes test m) k ≡ totalIn key m k
+        → totalIn key (cond t (o ∷ keptOnes test m) (keptOnes test m)) k ≡ cond s 1 0 + totalIn key m k
     one s true e f rest = omega (arith, ap (λ (b : Bool). cond {A = ℕ} b 1 0) e)
     one true false e f rest = absurd (false≢true (sym f ∙ h o (eqb-true (key o) k e)))
     one false false e f rest = omega arith
 
 totals-tested : (key : Coordinate → ℕ) (total : ℕ → ℕ) (n halvings from : ℕ) (m : List Coordinate)
     → totalsAre key total n halvings from m ≡ true
-    → (k : ℕ) → from ≤ k → k < from + 2 ^ halvings → 1 ≤ k → k ≤ n → onesIn key m k ≡ total k
+    → (k : ℕ) → from ≤ k → k < from + 2 ^ halvings → 1 ≤ k → k ≤ n → totalIn key m k ≡ total k
 unfolding totalsAre
 totals-tested key total n zero from m h k lo hi one most =
     let e : k ≡ from = omega arith in
-    rw e (eqb-true (onesIn key m from) (total from) (rw (le-leb 1 from (omega arith), le-leb from n (omega arith)) at h))
+    rw e (eqb-true (totalIn key m from) (total from) (rw (le-leb 1 from (omega arith), le-leb from n (omega arith)) at h))
 totals-tested key total n (suc halvings) from m h k lo hi one most =
     ⊎-elim
     (λ (lt : k < from + 2 ^ halvings). sym (kept-ones key _ k (λ o e. lt-ltb (key o) (from + 2 ^ halvings) (omega arith)) m)
     ∙ totals-tested key total n halvings from _ (both (totalsAre key total n halvings from _) _ h .0) k lo lt one most)
     (λ (ge : from + 2 ^ halvings ≤ k). sym (kept-ones key _ k (λ o e. le-leb (from + 2 ^ halvings) (key o) (omega arith)) m)
     ∙ totals-tested key total n halvings (from + 2 ^ halvings) _ (both (totalsAre key total n halvings from _) _ h .1) k ge (omega (arith, pow-suc 2 halvings)) one most)
-    (lt-or-ge k (from + 2 ^ halvings))
+    (before-or-not k (from + 2 ^ halvings))
 
 -- of a matrix with fewer than 1024 rows and columns
 pub totals-kept : {n c : ℕ} {m : List Coordinate} {rows columns : ℕ → ℕ}
-    → (totalsAre rowOf rows n 10 0 m && totalsAre columnOf columns c 10 0 m && (ltb n 1024 && ltb c 1024)) ≡ true
+    → (totalsAre itsRow rows n 10 0 m && totalsAre itsColumn columns c 10 0 m && (ltb n 1024 && ltb c 1024)) ≡ true
     → HasTotals n c m rows columns
 totals-kept {n} {c} {m} {rows} {columns} h =
-    let h₁ = both (totalsAre rowOf rows n 10 0 m && totalsAre columnOf columns c 10 0 m) _ h in
-    let h₂ = both (totalsAre rowOf rows n 10 0 m) _ (h₁ .0) in
+    let h₁ = both (totalsAre itsRow rows n 10 0 m && totalsAre itsColumn columns c 10 0 m) _ h in
+    let h₂ = both (totalsAre itsRow rows n 10 0 m) _ (h₁ .0) in
     let h₃ = both (ltb n 1024) _ (h₁ .1) in
     let n-lt = ltb-true n 1024 (h₃ .0) in
     let c-lt = ltb-true c 1024 (h₃ .1) in
     record {
-      in-row = λ r one most. totals-tested rowOf rows n 10 0 m (h₂ .0) r (omega arith) (omega arith) one most;
-      in-column = λ k one most. totals-tested columnOf columns c 10 0 m (h₂ .1) k (omega arith) (omega arith) one most;
+      in-row = λ r one most. totals-tested itsRow rows n 10 0 m (h₂ .0) r (omega arith) (omega arith) one most;
+      in-column = λ k one most. totals-tested itsColumn columns c 10 0 m (h₂ .1) k (omega arith) (omega arith) one most;
     }
