@@ -3,17 +3,19 @@
 -- Assumes nothing.
 use mathlib.Core.Path.{_≡_, refl, ap, ap₂, _∙_}
 use mathlib.Core.List.{List, _++_}
-use Prim.Native.Nat.{ℕ, _+_, _*_, _<_}
+use Prim.Native.Nat.{ℕ, _+_, _*_, _≤_, _<_}
 use native.Mathlib.Omega.{arith}
 use lib.ListN.{length, getD, take, drop, length-append}
 use lib.Seq.{take-at, drop-at}
+use borrow.Author.Tests.{ne-eqb, le-ltb}
 use Rattle.words.specs.Bits.{IsBits, firstNotBit}
+use Rattle.words.specs.Refusal.{LENGTH, NOT-A-BIT, refusedAt}
 use Rattle.words.specs.Sums.{sums}
 use Rattle.words.specs.Unchanged.{Refuses}
 use Rattle.words.specs.Laws.Digits.{bits-none}
 use Rattle.words.specs.declared.refusal.Answer.the-variants.{Done}
-use Rattle.parity.specs.Order.{SYMBOLS-2, SYMBOLS-3, SYMBOLS, ROWS, COLUMNS, leavesAt, stoodAt, interleaved, deinterleaved, firstBlock, secondBlock, placeIs, placeInOrder, placeBefore, rightLengths, HaveLengths, allBits, interleaveAnswer, interleaveBytes, deinterleaveAnswer, deinterleaveBlock2, deinterleaveBlock3}
-use Rattle.parity.specs.Laws.Order.{length-symbols, symbols-whole, symbols-are, symbols-sums, places-back, asked-back, blocks-fit, blocks-are, blocks-joined, lengths-fit, done-answer, done-leaves, not-bit-behind}
+use Rattle.parity.specs.Order.{SYMBOLS-2, SYMBOLS-3, SYMBOLS, ROWS, COLUMNS, leavesAt, stoodAt, interleaved, deinterleaved, firstBlock, secondBlock, placeIs, noPlace, placeInOrder, placeBefore, rightLengths, HaveLengths, allBits, interleaveAnswer, interleaveBytes, deinterleaveAnswer, deinterleaveBlock2, deinterleaveBlock3}
+use Rattle.parity.specs.Laws.Order.{length-symbols, symbols-whole, symbols-are, symbols-sums, places-back, asked-back, blocks-fit, blocks-are, blocks-joined, lengths-fit, lengths-wrong, done-answer, done-leaves, not-bit-behind}
 use Rattle.parity.specs.Laws.Lent.{refused-stay}
 use Rattle.parity.specs.Laws.Parts.{bits-append}
 
@@ -109,6 +111,10 @@ place-back k h = asked-back stoodAt leavesAt k h (leaves-inside k h) (stood-leav
 pub place-again : (i : ℕ) → i < SYMBOLS → placeInOrder (placeBefore i .index) ≡ placeIs i
 place-again i h = asked-back leavesAt stoodAt i h (stood-inside i h) (leaves-stood i h)
 
+-- Past the last symbol there is no place: both are refused 1 at 0, with 0 beside it.
+pub no-place-past : (k : ℕ) → SYMBOLS ≤ k → (placeInOrder k ≡ noPlace) × (placeBefore k ≡ noPlace)
+no-place-past k h = (rw (le-ltb k SYMBOLS h) refl, rw (le-ltb k SYMBOLS h) refl)
+
 -- A byte of the second block that is no bit is counted from the first block's start: the second block's first byte is 1200.
 pub block3-counted : (b2 b3 : List ℕ) → length b2 ≡ SYMBOLS-2 → IsBits b2 → firstNotBit (b2 ++ b3) ≡ SYMBOLS-2 + firstNotBit b3
 block3-counted b2 b3 e bits = not-bit-behind b2 b3 (bits-none b2 bits) ∙ ap (λ (n : ℕ). n + firstNotBit b3) e
@@ -167,6 +173,22 @@ symbols-back s b2 b3 old h e bits =
       ap₂ (λ (x y : List ℕ). interleaveBytes x y old) (taken .1) (taken .2)
           ∙ done .1 ∙ ap interleaved (blocks-joined s) ∙ deinterleaved-back s (h .both),
     )
+
+-- Unless the lengths are right, both ways are refused 1 at 0.
+pub interleave-refused-length : (b2 b3 s : List ℕ) → (HaveLengths b2 b3 s → ⊥) → interleaveAnswer b2 b3 s ≡ refusedAt LENGTH 0
+interleave-refused-length b2 b3 s h = rw (lengths-wrong b2 b3 s h)
+
+pub deinterleave-refused-length : (s b2 b3 : List ℕ) → (HaveLengths b2 b3 s → ⊥) → deinterleaveAnswer s b2 b3 ≡ refusedAt LENGTH 0
+deinterleave-refused-length s b2 b3 h = rw (lengths-wrong b2 b3 s h)
+
+-- Then, with a byte that is neither 0 nor 1, 2 at the first.
+pub interleave-refused-byte : (b2 b3 s : List ℕ) → HaveLengths b2 b3 s → (firstNotBit (b2 ++ b3) ≡ SYMBOLS → ⊥)
+    → interleaveAnswer b2 b3 s ≡ refusedAt NOT-A-BIT (firstNotBit (b2 ++ b3))
+interleave-refused-byte b2 b3 s h some = rw (lengths-fit b2 b3 s h, ne-eqb (firstNotBit (b2 ++ b3)) SYMBOLS some)
+
+pub deinterleave-refused-byte : (s b2 b3 : List ℕ) → HaveLengths b2 b3 s → (firstNotBit s ≡ SYMBOLS → ⊥)
+    → deinterleaveAnswer s b2 b3 ≡ refusedAt NOT-A-BIT (firstNotBit s)
+deinterleave-refused-byte s b2 b3 h some = rw (lengths-fit b2 b3 s h, ne-eqb (firstNotBit s) SYMBOLS some)
 
 -- Where interleaving is refused, the symbols are as they were.
 pub interleave-unchanged : (b2 b3 s : List ℕ) → Refuses (interleaveAnswer b2 b3 s) → interleaveBytes b2 b3 s ≡ s

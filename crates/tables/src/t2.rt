@@ -1,4 +1,4 @@
-// Submatrix T of subframe 2: a constant for each printed sheet, and one thin function that lends it.
+// Submatrix T of subframe 2: a constant for each printed sheet, and two thin functions that lend it, one to add and one to substitute.
 ghost use mathlib.Core.Path.{_≡_};
 ghost use Rattle.tables.specs.Coordinates.{coordinates, added, solved};
 ghost use Rattle.tables.specs.T2.{t2-1, t2-2, t2-3, t2-4, t2};

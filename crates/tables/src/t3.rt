@@ -1,4 +1,4 @@
-// Submatrix T of subframe 3: a constant for each printed sheet, and one thin function that lends it.
+// Submatrix T of subframe 3: a constant for each printed sheet, and two thin functions that lend it, one to add and one to substitute.
 ghost use mathlib.Core.Path.{_≡_};
 ghost use Rattle.tables.specs.Coordinates.{coordinates, added, solved};
 ghost use Rattle.tables.specs.T3.{t3-1, t3-2, t3};

@@ -137,6 +137,13 @@ lengths-found b2 b3 s e =
       both = eqb-true (length s) SYMBOLS (rest .1);
     }
 
+pub lengths-wrong : (b2 b3 s : List ℕ) → (HaveLengths b2 b3 s → ⊥) → rightLengths (length b2) (length b3) (length s) ≡ false
+lengths-wrong b2 b3 s h = go (rightLengths (length b2) (length b3) (length s)) refl
+  where
+    go : (t : Bool) → rightLengths (length b2) (length b3) (length s) ≡ t → t ≡ false
+    go true e = absurd (h (lengths-found b2 b3 s e))
+    go false e = refl
+
 -- right lengths and bits alone: done, and the new bytes are left
 pub done-answer : (lengths : Bool) (firstNot : ℕ) → lengths ≡ true → firstNot ≡ SYMBOLS → orderAnswer lengths firstNot ≡ Done
 done-answer lengths firstNot e f = ap₂ orderAnswer e f
