@@ -68,6 +68,7 @@ fn put_parity(subframe: Subframe, sums: &mut [u8], block: &mut [u8])
     put_with(subframe, p1[0], sums, block);
 }
 
+// The same, with sums of its own.
 fn fill(subframe: Subframe, block: &mut [u8])
     requires { ⌜ length (now block) ≡ matrixOf subframe .equations + matrixOf subframe .equations ⌝ }
     ensures { λ r. ⌜ now (block .exit) ≡ withParity (matrixOf subframe) (dataOf (matrixOf subframe) (now (block .entry))) ⌝ }
