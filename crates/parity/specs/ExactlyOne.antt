@@ -10,15 +10,20 @@ use lib.ListN.{length}
 use Rattle.words.specs.Bits.{IsBits}
 use Rattle.words.specs.Sums.{sums}
 use Rattle.words.specs.Laws.Sums.{length-sums, sums-are}
-use Rattle.tables.specs.Coordinates.{symbolAt, rowSum, solved}
+use Rattle.tables.specs.Coordinates.{Coordinate, symbolAt, rowSum, solved}
 use Rattle.tables.specs.Matrix.{Matrix}
-use Rattle.tables.specs.Rules.{IsProper}
+use Rattle.tables.specs.Rules.{productOf, IsInside, IsProper}
 use Rattle.parity.specs.Equations.{equationSum, Meets, firstUnmet}
 use Rattle.parity.specs.Fill.{withParity, IsCodeword}
-use Rattle.parity.specs.Laws.Codewords.{codeword, same-codeword}
+use Rattle.parity.specs.Laws.Codewords.{product-right, codeword, same-codeword}
 use Rattle.parity.specs.Laws.Linear.{codeword-sums}
 use Rattle.parity.specs.Laws.Substitution.{solved-right}
 use Rattle.parity.specs.Laws.Scan.{Scanned, all-even, first-is, scanned}
+
+-- The product of a matrix and symbols has in each row the sum of the symbols at the row's ones, modulo 2.
+pub product-rows : (n c : ℕ) (m : List Coordinate) → IsInside n c m → (s : List ℕ) (r : ℕ) → 1 ≤ r → r ≤ n
+    → symbolAt (productOf n m s) r % 2 ≡ rowSum m s r % 2
+product-rows n c m inside s r lo hi = product-right n c m inside s r lo hi
 
 -- Forward substitution over T is T⁻¹: T times what it gives is what it was given, row by row, modulo 2.
 pub t-inverse : (M : Matrix) → IsProper M → (y : List ℕ) → length y ≡ M .equations - 1 → (r : ℕ) → 1 ≤ r → r ≤ M .equations - 1

@@ -28,7 +28,7 @@ zero-adds-nothing m r = sum-zeros m (0 ∷ []) r (zero-at 1)
 
 -- ---- products
 
-product-right : (n c : ℕ) (m : List Coordinate) → IsInside n c m → (s : List ℕ) (r : ℕ) → 1 ≤ r → r ≤ n
+pub product-right : (n c : ℕ) (m : List Coordinate) → IsInside n c m → (s : List ℕ) (r : ℕ) → 1 ≤ r → r ≤ n
     → symbolAt (productOf n m s) r % 2 ≡ rowSum m s r % 2
 product-right n c m w s r lo hi =
     omega (arith, added-right n c m w s (replicate n 0) (omega (arith, length-replicate {A = ℕ} n 0)) r lo hi, zero-at n (r - 1))
