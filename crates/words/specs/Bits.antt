@@ -81,3 +81,10 @@ signedAnswer l at w z = putAnswer (fitsSigned l at w z)
 
 abbrev pub signedBytes : List ℕ → ℕ → ℕ → ℤ → List ℕ
 signedBytes l at w z = putBytes (fitsSigned l at w z) l at (bitsOf w (unsignedOf w z))
+
+-- copying bytes over others is refused 1 at 0 unless both are as many; on a refusal they stay
+abbrev pub copyAnswer : List ℕ → List ℕ → Answer
+copyAnswer from into = doneIf (eqb (length from) (length into)) LENGTH 0
+
+abbrev pub copyBytes : List ℕ → List ℕ → List ℕ
+copyBytes from into = leftIf (eqb (length from) (length into)) from into

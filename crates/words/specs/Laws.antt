@@ -1,5 +1,6 @@
 -- The laws below the theorems and the functions' proofs.
 pub mod Tests
+pub mod Turns
 pub mod Digits
 pub mod Signs
 pub mod Puts

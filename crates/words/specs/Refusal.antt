@@ -78,10 +78,25 @@ refusedAt number place = Refused (record { number = number; place = place })
 abbrev pub doneIf : Bool → ℕ → ℕ → Answer
 doneIf test number place = cond test Done (refusedAt number place)
 
+-- judged in turn: the first refusal of the two, done where neither refuses
+abbrev pub inTurn : Answer → Answer → Answer
+inTurn Done next = next
+inTurn (Refused r) next = Refused r
+
+-- how lent bytes are judged before anything is done with them: 1 at 0 unless the lengths are right, then 2 at the first byte that is
+-- neither 0 nor 1, and then what else is answered
+abbrev pub judged : Bool → Bool → ℕ → Answer → Answer
+judged lengths bits firstNot answer = cond lengths (cond bits answer (refusedAt NOT-A-BIT firstNot)) (refusedAt LENGTH 0)
+
 -- what is then left in lent bytes: the new ones where the test holds, and else the bytes as they were
 abbrev pub leftIf : Bool → List ℕ → List ℕ → List ℕ
 leftIf true new l = new
 leftIf false new l = l
+
+-- the same by an answer: the new bytes where nothing is refused, and else the bytes as they were
+abbrev pub leftBy : Answer → List ℕ → List ℕ → List ℕ
+leftBy Done new l = new
+leftBy (Refused r) new l = l
 
 -- the table's number of an answer, 0 where nothing was refused
 abbrev pub numberOf : Answer → ℕ

@@ -10,13 +10,26 @@ use lib.ListN.{length, take}
 use lib.Seq.{sets}
 use Rattle.words.specs.Bits.{bitsOf, unsignedOf, fitsNumber, fitsSigned, putAnswer, numberAnswer, numberBytes, signedAnswer, signedBytes}
 use Rattle.words.specs.Crc.{blockOf, checkAnswer, checkBytes}
-use Rattle.words.specs.Refusal.{LENGTH, TIME, refusedAt, doneIf, leftIf, numberOf}
+use Rattle.words.specs.Refusal.{LENGTH, TIME, refusedAt, doneIf, judged, leftIf, leftBy, numberOf}
 use Rattle.words.specs.Time.{timeWord, timeAnswer, timeBytes}
 use Rattle.words.specs.declared.refusal.Answer.{Answer}
+use Rattle.words.specs.declared.refusal.Answer.the-variants.{Done, Refused}
 
 -- the answer is a refusal
 abbrev pub Refuses : Answer → Type 0
 Refuses a = numberOf a ≡ 0 → ⊥
+
+-- Where lent bytes are judged and refused, they are as they were.
+pub refused-stay : (lengths bits : Bool) (firstNot : ℕ) (new l : List ℕ) → Refuses (judged lengths bits firstNot Done)
+    → leftIf (lengths && bits) new l ≡ l
+refused-stay true true firstNot new l h = absurd (h refl)
+refused-stay true false firstNot new l h = refl
+refused-stay false bits firstNot new l h = refl
+
+-- Where bytes are left by an answer that refuses, they are as they were.
+pub refused-by-answer : (a : Answer) (new l : List ℕ) → Refuses a → leftBy a new l ≡ l
+refused-by-answer Done new l h = absurd (h refl)
+refused-by-answer (Refused r) new l h = refl
 
 kept : (fits : Bool) (l new : List ℕ) → Refuses (putAnswer fits) → leftIf fits new l ≡ l
 kept true l new h = absurd (h refl)

@@ -7,7 +7,7 @@ ghost use lib.Dec.{leb, ltb};
 ghost use lib.ListN.{length};
 ghost use lib.Seq.{sets};
 ghost use lib.Signed.{mag};
-ghost use Rattle.words.specs.Bits.{firstNotBit, valueOf, bitsOf, signedOf, unsignedOf, bitsAt, holdsSigned, numberAnswer, numberBytes, signedAnswer, signedBytes};
+ghost use Rattle.words.specs.Bits.{firstNotBit, valueOf, bitsOf, signedOf, unsignedOf, bitsAt, holdsSigned, numberAnswer, numberBytes, signedAnswer, signedBytes, copyAnswer, copyBytes};
 use super::refusal::Answer;
 use super::refusal::LENGTH;
 use super::refusal::refuse;
@@ -121,7 +121,7 @@ pub fn take_signed(bytes: &[u8], at: usize, width: usize) -> i64
 // ---- putting
 
 // The number is n or -(n + 1): that n.
-fn magnitude(z: i64) -> u64
+pub fn magnitude(z: i64) -> u64
     ensures { λ r. ⌜ r ≡ mag z ⌝ }
 {
     if z < 0 { (-1 - z) as u64 } else { z as u64 }
@@ -227,6 +227,31 @@ pub fn put_signed(bytes: &mut [u8], at: usize, width: usize, number: i64) -> Ans
 {
     if fits_signed(bytes.len(), at, width, number) {
         put_bits(bytes, at, width, unsigned_of(number, width));
+        return Answer::Done;
+    }
+    refuse(LENGTH, 0)
+}
+
+// ---- copying
+
+// Copies bytes over as many others.
+fn copy_over(from: &[u8], into: &mut [u8])
+    requires { ⌜ length (now from) ≡ length (now into) ⌝ }
+    ensures { λ r. ⌜ now (into .exit) ≡ now (from .entry) ⌝ }
+{
+    let mut i: usize = 0;
+    while i < from.len() {
+        into[i] = from[i];
+        i += 1;
+    }
+}
+
+// Copies bytes over as many others; refused 1 at 0 where they are not as many.
+pub fn copy(from: &[u8], into: &mut [u8]) -> Answer
+    ensures { λ r. ⌜ (r ≡ copyAnswer (now (from .entry)) (now (into .entry))) × (now (into .exit) ≡ copyBytes (now (from .entry)) (now (into .entry))) ⌝ }
+{
+    if from.len() == into.len() {
+        copy_over(from, into);
         return Answer::Done;
     }
     refuse(LENGTH, 0)

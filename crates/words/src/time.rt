@@ -92,7 +92,8 @@ fn turn(toi: u16) -> u64
     TURNS[k]
 }
 
-fn no_time(number: u8, place: usize) -> Time
+// A refusal, with zeros beside it.
+pub fn no_time(number: u8, place: usize) -> Time
     ensures { λ r. ⌜ r ≡ noTime number place ⌝ }
 {
     Time {

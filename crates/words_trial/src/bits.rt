@@ -2,7 +2,9 @@
 use show::done;
 use show::expected;
 use show::refused;
+use words::bits::copy;
 use words::bits::first_not_bit;
+use words::bits::magnitude;
 use words::bits::put_number;
 use words::bits::put_signed;
 use words::bits::take_number;
@@ -13,6 +15,8 @@ const LAST: usize = 18446744073709551615;
 const LARGEST: u64 = 18446744073709551615;
 
 const LEAST: i64 = -9223372036854775808;
+
+const MOST: i64 = 9223372036854775807;
 
 fn number(text: &[u8], bytes: &[u8], at: usize, width: usize, n: u64) {
     expected(text, take_number(bytes, at, width) == n);
@@ -231,4 +235,65 @@ pub(crate) fn putting_signed() {
     );
     put_and_back(b"put_signed of 0 in one bit is done", 63, 1, 0);
     put_and_back(b"put_signed of the least in 64 bits is done", 0, 64, LEAST);
+}
+
+fn of_magnitude(text: &[u8], z: i64, n: u64) {
+    expected(text, magnitude(z) == n);
+}
+
+pub(crate) fn magnitudes() {
+    of_magnitude(b"magnitude of 0 is 0", 0, 0);
+    of_magnitude(b"magnitude of -1 is 0", -1, 0);
+    of_magnitude(b"magnitude of 4096 is 4096", 4096, 4096);
+    of_magnitude(b"magnitude of -4096 is 4095", -4096, 4095);
+    of_magnitude(
+        b"magnitude of the most is itself",
+        MOST,
+        9223372036854775807,
+    );
+    of_magnitude(
+        b"magnitude of the least is that too",
+        LEAST,
+        9223372036854775807,
+    );
+}
+
+// Refused 1 at 0, with four bytes left at 9.
+fn copy_refused(text: &[u8], from: &[u8]) {
+    let before = [9u8; 4];
+    let mut row = [9u8; 4];
+    refused(text, copy(from, &mut row), 1, 0);
+    expected(b"  and the bytes stay", check::same(&row, &before));
+}
+
+pub(crate) fn not_copying() {
+    let from = [0u8, 1, 255, 2, 3];
+    copy_refused(b"copy of 5 bytes over 4 is refused 1 at 0", &from);
+    copy_refused(b"copy of 3 bytes over 4 too", &from[0..3]);
+    copy_refused(b"copy of nothing over 4 too", &from[0..0]);
+}
+
+pub(crate) fn copying() {
+    let from = [1u8, 255, 2, 3];
+    let mut row = [9u8; 4];
+    done(b"copy of 4 bytes over 4 is done", copy(&from, &mut row));
+    expected(
+        b"  and the bytes are 1 255 2 3",
+        check::same(&row, b"\x01\xff\x02\x03"),
+    );
+}
+
+pub(crate) fn copying_nothing() {
+    let from = [7u8; 2];
+    let mut none = [0u8; 0];
+    refused(
+        b"copy of 2 bytes over nothing is refused 1 at 0",
+        copy(&from, &mut none),
+        1,
+        0,
+    );
+    done(
+        b"copy of nothing over nothing is done",
+        copy(&from[0..0], &mut none),
+    );
 }

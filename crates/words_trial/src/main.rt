@@ -14,6 +14,10 @@ fn main() {
     bits::putting();
     bits::putting_wide();
     bits::putting_signed();
+    bits::magnitudes();
+    bits::not_copying();
+    bits::copying();
+    bits::copying_nothing();
     crc::known();
     crc::extreme();
     crc::refusing();
@@ -23,4 +27,5 @@ fn main() {
     time::writing_elsewhere();
     time::reading();
     time::turned();
+    time::no_times();
 }

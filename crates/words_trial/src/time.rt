@@ -7,6 +7,7 @@ use show::refused;
 use words::bits::put_number;
 use words::bits::take_number;
 use words::time::Time;
+use words::time::no_time;
 use words::time::read_time;
 use words::time::write_time;
 
@@ -146,4 +147,19 @@ pub(crate) fn turned() {
     );
     symbols[9] = 1;
     not_read(b"ten turned are refused 3 at 0", read_time(&symbols), 3, 0);
+}
+
+pub(crate) fn no_times() {
+    not_read(
+        b"no_time(0, 0) is that refusal, with zeros",
+        no_time(0, 0),
+        0,
+        0,
+    );
+    not_read(
+        b"no_time(255, last) is that refusal, with zeros",
+        no_time(255, 18446744073709551615),
+        255,
+        18446744073709551615,
+    );
 }

@@ -11,7 +11,7 @@ use lib.Dec.{lit<}
 use lib.IntN.{ℤ, pos, negsuc}
 use lib.ListN.{length, getD, take, drop, set, drop-of-length-le, length-drop, length-take}
 use lib.Pow.{pow-mono}
-use lib.Seq.{drop-cons, take-suc, sets, set-comm}
+use lib.Seq.{drop-cons, take-all, take-suc, take-suc-set, sets, set-comm}
 use lib.Signed.{mag, ltZ}
 use mir.Syntax.{w64}
 use mir.Val.{SFits, toZ, ofZ}
@@ -122,3 +122,20 @@ pub none-left : (l : List ℕ) (at w n : ℕ) → w ≤ 0 → sets l at (bitsOf 
 unfolding bitsOf
 none-left l at zero n h = refl
 none-left l at (suc w) n h = absurd (omega arith)
+
+-- ---- bytes copied one after another
+
+pub none-taken : (a b : List ℕ) → take 0 a ≡ take 0 b
+none-taken [] [] = refl
+none-taken [] (y ∷ b) = refl
+none-taken (x ∷ a) [] = refl
+none-taken (x ∷ a) (y ∷ b) = refl
+
+pub one-more : (from into : List ℕ) (i : ℕ) → i < length into → i < length from → take i into ≡ take i from
+    → take (i + 1) (set into i (getD from i 0)) ≡ take (i + 1) from
+one-more from into i h g e =
+    rw (add-one i)
+    (take-suc-set into i (getD from i 0) h ∙ ap (λ (l : List ℕ). l ++ (getD from i 0 ∷ [])) e ∙ sym (take-suc from i 0 g))
+
+pub all-taken : (from into : List ℕ) (i : ℕ) → length into ≤ i → length from ≤ i → take i into ≡ take i from → into ≡ from
+all-taken from into i h g e = sym (take-all i into h) ∙ e ∙ take-all i from g

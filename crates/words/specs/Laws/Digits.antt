@@ -10,7 +10,7 @@ use native.Mathlib.Omega.{arith}
 use lib.Arith.{lt-one}
 use lib.Bits.{block-half, block-odd}
 use lib.Dec.{ltb}
-use lib.ListN.{length, drop, getD, length-append}
+use lib.ListN.{length, drop, getD, length-append, take}
 use lib.Pow.{mod-pow-add, shr-shr, pow-pos, split}
 use borrow.Author.Tests.{ltb-true, lt-ltb}
 use Rattle.words.specs.Bits.{IsBits, firstNotBit, valueOf, bitsOf}
@@ -32,6 +32,24 @@ more-bits {b} {l} h t = record { bit = go }
     go : (k : ℕ) → getD (b ∷ l) k 0 < 2
     go zero = h
     go (suc k) = t .bit k
+
+-- lists of bits one after another, and parts of them
+
+pub bits-append : (a b : List ℕ) → IsBits a → IsBits b → IsBits (a ++ b)
+bits-append [] b ha hb = hb
+bits-append (x ∷ a) b ha hb = more-bits (first-bit ha) (bits-append a b (other-bits ha) hb)
+
+pub bits-take : (n : ℕ) (l : List ℕ) → IsBits l → IsBits (take n l)
+bits-take zero [] h = no-bits
+bits-take zero (x ∷ l) h = no-bits
+bits-take (suc n) [] h = no-bits
+bits-take (suc n) (x ∷ l) h = more-bits (first-bit h) (bits-take n l (other-bits h))
+
+pub bits-drop : (n : ℕ) (l : List ℕ) → IsBits l → IsBits (drop n l)
+bits-drop zero [] h = h
+bits-drop zero (x ∷ l) h = h
+bits-drop (suc n) [] h = h
+bits-drop (suc n) (x ∷ l) h = bits-drop n l (other-bits h)
 
 -- ---- the number of bits
 

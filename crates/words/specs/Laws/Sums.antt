@@ -146,3 +146,14 @@ turned-differ (x ∷ a) (y ∷ t) e ha ht =
     one zero (suc (suc y)) hx hy = absurd (omega arith)
     one (suc zero) (suc (suc y)) hx hy = absurd (omega arith)
     one (suc (suc x)) y hx hy = absurd (omega arith)
+
+-- a list differs from itself nowhere, and two that are put together where their parts do
+pub differing-self : (l : List ℕ) → differing l l ≡ 0
+differing-self [] = refl
+differing-self (x ∷ l) = let same : differs x x ≡ 0 = rw (eq-eqb x x refl) refl in omega (arith, differing-self l)
+
+pub differing-append : (a b c d : List ℕ) → length a ≡ length c → differing (a ++ b) (c ++ d) ≡ differing a c + differing b d
+differing-append [] b [] d e = omega arith
+differing-append [] b (y ∷ c) d e = absurd (omega arith)
+differing-append (x ∷ a) b [] d e = absurd (omega arith)
+differing-append (x ∷ a) b (y ∷ c) d e = omega (arith, differing-append a b c d (suc-inj e))
