@@ -8,13 +8,12 @@ use Prim.Native.Nat.{ℕ, zero, suc, _+_, _%_, _≤_}
 use lib.Dec.{eqb, ltb}
 use lib.ListN.{length, take, drop}
 use Rattle.words.specs.Bits.{firstNotBit}
-use Rattle.words.specs.Refusal.{EQUATION-2, EQUATION-3, doneIf}
+use Rattle.words.specs.Refusal.{EQUATION-2, EQUATION-3, doneIf, judged}
 use Rattle.words.specs.declared.refusal.Answer.{Answer}
 use Rattle.tables.specs.Coordinates.{rowSum}
 use Rattle.tables.specs.Matrix.{Matrix, matrixOf}
 use Rattle.tables.specs.declared.matrix.Subframe.{Subframe}
 use Rattle.tables.specs.declared.matrix.Subframe.the-variants.{Two, Three}
-use Rattle.parity.specs.Lent.{judged}
 
 -- the parts of a block: the data symbols, then the one symbol p1, then p2
 abbrev pub dataOf : Matrix → List ℕ → List ℕ

@@ -8,14 +8,13 @@ use Prim.Native.Nat.{ℕ, _+_, _-_, _%_}
 use lib.Dec.{eqb}
 use lib.ListN.{length}
 use Rattle.words.specs.Bits.{IsBits, firstNotBit}
-use Rattle.words.specs.Refusal.{leftIf}
+use Rattle.words.specs.Refusal.{leftIf, judged}
 use Rattle.words.specs.declared.refusal.Answer.{Answer}
 use Rattle.words.specs.declared.refusal.Answer.the-variants.{Done}
 use Rattle.tables.specs.Coordinates.{rowSum, added, solved}
 use Rattle.tables.specs.Matrix.{Matrix, matrixOf}
 use Rattle.tables.specs.Rules.{productOf}
 use Rattle.tables.specs.declared.matrix.Subframe.{Subframe}
-use Rattle.parity.specs.Lent.{judged}
 use Rattle.parity.specs.Equations.{dataOf, Meets, isBlock}
 
 -- A s

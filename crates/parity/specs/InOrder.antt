@@ -11,13 +11,11 @@ use borrow.Author.Tests.{ne-eqb, le-ltb}
 use Rattle.words.specs.Bits.{IsBits, firstNotBit}
 use Rattle.words.specs.Refusal.{LENGTH, NOT-A-BIT, refusedAt}
 use Rattle.words.specs.Sums.{sums}
-use Rattle.words.specs.Unchanged.{Refuses}
-use Rattle.words.specs.Laws.Digits.{bits-none}
+use Rattle.words.specs.Unchanged.{Refuses, refused-stay}
+use Rattle.words.specs.Laws.Digits.{bits-append, bits-none}
 use Rattle.words.specs.declared.refusal.Answer.the-variants.{Done}
 use Rattle.parity.specs.Order.{SYMBOLS-2, SYMBOLS-3, SYMBOLS, ROWS, COLUMNS, leavesAt, stoodAt, interleaved, deinterleaved, firstBlock, secondBlock, placeIs, noPlace, placeInOrder, placeBefore, rightLengths, HaveLengths, allBits, interleaveAnswer, interleaveBytes, deinterleaveAnswer, deinterleaveBlock2, deinterleaveBlock3}
 use Rattle.parity.specs.Laws.Order.{length-symbols, symbols-whole, symbols-are, symbols-sums, places-back, asked-back, blocks-fit, blocks-are, blocks-joined, lengths-fit, lengths-wrong, done-answer, done-leaves, not-bit-behind}
-use Rattle.parity.specs.Laws.Lent.{refused-stay}
-use Rattle.parity.specs.Laws.Parts.{bits-append}
 
 -- ---- places
 

@@ -11,8 +11,8 @@ use lib.ListN.{length}
 use lib.Seq.{length-take-le}
 use borrow.Author.Tests.{eq-eqb, ne-eqb, eqb-true}
 use Rattle.words.specs.Bits.{IsBits, firstNotBit}
-use Rattle.words.specs.Refusal.{LENGTH, NOT-A-BIT, refusedAt, doneIf, numberOf}
-use Rattle.words.specs.Unchanged.{Refuses}
+use Rattle.words.specs.Refusal.{LENGTH, NOT-A-BIT, refusedAt, doneIf, numberOf, judged}
+use Rattle.words.specs.Unchanged.{Refuses, refused-stay}
 use Rattle.words.specs.Laws.Digits.{bits-none, none-not-bit}
 use Rattle.words.specs.declared.refusal.Answer.the-variants.{Done}
 use Rattle.tables.specs.Matrix.{matrixOf}
@@ -21,8 +21,6 @@ use Rattle.tables.specs.declared.matrix.Subframe.{Subframe}
 use Rattle.tables.specs.declared.matrix.Subframe.the-variants.{Two, Three}
 use Rattle.parity.specs.Equations.{dataOf, Meets, firstUnmet, equationNumber, isBlock, metAnswer}
 use Rattle.parity.specs.Fill.{withParity, IsCodeword, fillAnswer, fillBytes}
-use Rattle.parity.specs.Lent.{judged}
-use Rattle.parity.specs.Laws.Lent.{refused-stay}
 use Rattle.parity.specs.ExactlyOne.{filled-meets, only-filled, none-unmet, met-none}
 
 numbered : (s : Subframe) → equationNumber s ≡ 0 → ⊥

@@ -1,5 +1,4 @@
 -- The laws that the proofs and theorems of `parity` rest on.
-pub mod Lent
 pub mod Zeros
 pub mod Rows
 pub mod Substitution

@@ -7,10 +7,9 @@ use Prim.Native.Nat.{ℕ, zero, suc, _+_, _*_, _/_, _%_}
 use lib.Dec.{ltb, eqb}
 use lib.ListN.{length, getD, take, drop}
 use Rattle.words.specs.Bits.{firstNotBit}
-use Rattle.words.specs.Refusal.{LENGTH, NOT-A-BIT, refusedAt, doneIf, leftIf}
+use Rattle.words.specs.Refusal.{LENGTH, NOT-A-BIT, refusedAt, doneIf, leftIf, judged}
 use Rattle.words.specs.declared.refusal.Answer.{Answer}
 use Rattle.words.specs.declared.refusal.Answer.the-variants.{Done}
-use Rattle.parity.specs.Lent.{judged}
 use Rattle.parity.specs.declared.order.Place.{Place}
 
 -- the symbols of subframe 2 (3.2.3.5)

@@ -14,23 +14,12 @@ use tables::matrix::Submatrix;
 use tables::matrix::add;
 use tables::matrix::equations;
 use tables::matrix::solve;
+use words::bits::copy;
 use words::bits::first_not_bit;
 use words::refusal::Answer;
 use words::refusal::LENGTH;
 use words::refusal::NOT_A_BIT;
 use words::refusal::refuse;
-
-// Copies bytes over as many others.
-fn copy(from: &[u8], into: &mut [u8])
-    requires { ⌜ length (now from) ≡ length (now into) ⌝ }
-    ensures { λ r. ⌜ now (into .exit) ≡ now (from .entry) ⌝ }
-{
-    let mut i: usize = 0;
-    while i < from.len() {
-        into[i] = from[i];
-        i += 1;
-    }
-}
 
 // T⁻¹ times the sums.
 fn solve_into(subframe: Subframe, sums: &[u8], unknowns: &mut [u8])

@@ -1,33 +1,18 @@
--- Bytes copied one after another; and parity put into a block.
+-- Parity put into a block.
 -- Assumes nothing.
-use mathlib.Core.Path.{_≡_, refl, sym, ap, ap₂, _∙_}
+use mathlib.Core.Path.{_≡_, ap, ap₂, _∙_}
 use mathlib.Core.List.{List, [], _∷_, _++_, append-nil, append-assoc}
-use Prim.Native.Nat.{ℕ, _+_, _-_, _%_, _≤_, _<_}
+use Prim.Native.Nat.{ℕ, _+_, _-_, _%_, _≤_}
 use native.Mathlib.Numerals.{add-one}
 use native.Mathlib.Omega.{arith}
-use lib.ListN.{length, getD, take, drop, set, length-append, length-drop, drop-of-length-le}
-use lib.Seq.{take-all, take-suc, take-suc-set, length-take-le, drop-set-lt}
+use lib.ListN.{length, take, drop, set, length-append, length-drop, drop-of-length-le}
+use lib.Seq.{take-suc-set, length-take-le, drop-set-lt}
 use Rattle.tables.specs.Coordinates.{added, solved}
 use Rattle.tables.specs.Matrix.{Matrix}
 use Rattle.parity.specs.Equations.{lastSum}
 use Rattle.parity.specs.Fill.{dataSums, p1From, p2From, withParity}
 use Rattle.parity.specs.Laws.Parts.{last-is, rest-part}
 use Rattle.parity.specs.Laws.Codewords.{zero-adds-nothing}
-
-pub none-taken : (a b : List ℕ) → take 0 a ≡ take 0 b
-none-taken [] [] = refl
-none-taken [] (y ∷ b) = refl
-none-taken (x ∷ a) [] = refl
-none-taken (x ∷ a) (y ∷ b) = refl
-
-pub one-more : (from into : List ℕ) (i : ℕ) → i < length into → i < length from → take i into ≡ take i from
-    → take (i + 1) (set into i (getD from i 0)) ≡ take (i + 1) from
-one-more from into i h g e =
-    rw (add-one i)
-    (take-suc-set into i (getD from i 0) h ∙ ap (λ (l : List ℕ). l ++ (getD from i 0 ∷ [])) e ∙ sym (take-suc from i 0 g))
-
-pub all-taken : (from into : List ℕ) (i : ℕ) → length into ≤ i → length from ≤ i → take i into ≡ take i from → into ≡ from
-all-taken from into i h g e = sym (take-all i into h) ∙ e ∙ take-all i from g
 
 -- ---- a block whose p1 is put at n, and then its p2 from n + 1 on
 

@@ -8,7 +8,7 @@ use lib.ListN.{length, getD, replicate, length-append, length-drop, length-repli
 use lib.Seq.{ext-getD, length-take-le}
 use Rattle.words.specs.Bits.{IsBits}
 use Rattle.words.specs.Sums.{sums}
-use Rattle.words.specs.Laws.Digits.{no-bits, more-bits}
+use Rattle.words.specs.Laws.Digits.{no-bits, more-bits, bits-append, bits-drop}
 use Rattle.words.specs.Laws.Sums.{length-sums, sums-at, sums-are}
 use Rattle.tables.specs.Coordinates.{Coordinate, rowSum, added, solved, symbolAt}
 use Rattle.tables.specs.Matrix.{Matrix}
@@ -20,7 +20,7 @@ use Rattle.parity.specs.Fill.{dataSums, p1From, p2From, withParity, IsCo
 use Rattle.parity.specs.Laws.Zeros.{zero-at, zeros-bits}
 use Rattle.parity.specs.Laws.Rows.{sum-zeros, sum-linear, added-right, added-bits, solved-bits}
 use Rattle.parity.specs.Laws.Substitution.{same-solution, solved-right}
-use Rattle.parity.specs.Laws.Parts.{upperOf, lowerOf, data-is, parts-meet, upper-met, lower-met, put-together, bits-append, bits-drop}
+use Rattle.parity.specs.Laws.Parts.{upperOf, lowerOf, data-is, parts-meet, upper-met, lower-met, put-together}
 
 -- a p1 of 0 adds nothing
 pub zero-adds-nothing : (m : List Coordinate) (r : ℕ) → rowSum m (0 ∷ []) r ≡ 0

@@ -3,30 +3,16 @@
 use mathlib.Core.Path.{_≡_, sym, _∙_, ap}
 use mathlib.Core.List.{List, [], _∷_, _++_}
 use mathlib.Core.Logic.{⊎-elim}
-use Prim.Native.Nat.{ℕ, zero, suc, _+_, _-_, _%_, _≤_, _<_}
+use Prim.Native.Nat.{ℕ, _+_, _-_, _%_, _≤_, _<_}
 use native.Mathlib.Numerals.{add-one}
 use native.Mathlib.Omega.{arith}
 use lib.ListN.{length, getD, take, drop, length-drop}
 use lib.Seq.{take-all, take-at, drop-at, drop-drop, split-at}
 use borrow.Author.Tests.{lt-ltb, le-ltb}
-use Rattle.words.specs.Bits.{IsBits}
-use Rattle.words.specs.Laws.Digits.{first-bit, other-bits, more-bits}
 use Rattle.tables.specs.Coordinates.{rowSum}
 use Rattle.tables.specs.Matrix.{Matrix}
 use Rattle.tables.specs.Laws.Cases.{before-or-not}
 use Rattle.parity.specs.Equations.{dataOf, p1Of, p2Of, lastSum, equationSum, Meets}
-
--- ---- bits of parts
-
-pub bits-append : (a b : List ℕ) → IsBits a → IsBits b → IsBits (a ++ b)
-bits-append [] b ha hb = hb
-bits-append (x ∷ a) b ha hb = more-bits (first-bit ha) (bits-append a b (other-bits ha) hb)
-
-pub bits-drop : (n : ℕ) (l : List ℕ) → IsBits l → IsBits (drop n l)
-bits-drop zero [] h = h
-bits-drop zero (x ∷ l) h = h
-bits-drop (suc n) [] h = h
-bits-drop (suc n) (x ∷ l) h = bits-drop n l (other-bits h)
 
 -- ---- the sums of the rows, by parts
 
