@@ -1,0 +1,3 @@
+-- What the proofs of more than one function of `clock` use.
+mod Powers
+mod Laws

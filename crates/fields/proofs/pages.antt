@@ -1,0 +1,2 @@
+-- Laws that the proofs of `fields::pages` share.
+mod Laws

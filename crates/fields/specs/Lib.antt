@@ -1,0 +1,14 @@
+-- The definitions that the contracts of `fields` cite, and the theorems about them that people read.
+-- The laws that both rest on stand below Laws.
+pub mod Table
+pub mod Counts
+pub mod Subframe2
+pub mod Delay
+pub mod Pages
+pub mod Clock
+pub mod CountsBack
+pub mod FieldsBack
+pub mod PagesBack
+pub mod PagesRefused
+pub mod ClockTerms
+pub mod Laws
