@@ -1,0 +1,2 @@
+-- Laws that the proofs of `frames::block` share.
+mod Laws

@@ -1,0 +1,2 @@
+-- Laws that the proofs of `frames::build` share.
+mod Laws

@@ -1,0 +1,54 @@
+-- `frames::read::subframe2_in` meets its contract. Assumes nothing.
+use mathlib.Core.Path.{refl, ap, _∙_}
+use lib.ListN.{replicate}
+use Rattle.frames.specs.Laws.Steps.{fieldsFrom}
+use Rattle.frames.proofs.read.Laws.{first-taken}
+use borrow.Author.Needs.{needs}
+use Rattle.frames.proofs.read.subframe2_in.Statement.{statement}
+use Rattle.frames.proofs.read.subframe2_in.Tie as tie
+
+sub-deinterleave : tie.Need-sub-deinterleave
+sub-deinterleave c = search needs
+
+part-deinterleave-start : tie.Need-part-deinterleave-start
+part-deinterleave-start c = search needs
+
+part-deinterleave-end : tie.Need-part-deinterleave-end
+part-deinterleave-end c = search needs
+
+slice-aggregate-deinterleave : tie.Need-slice-aggregate-deinterleave
+slice-aggregate-deinterleave c = search needs
+
+slice-aggregate-deinterleave-2 : tie.Need-slice-aggregate-deinterleave-2
+slice-aggregate-deinterleave-2 c = search needs
+
+deinterleave-requires : tie.Need-deinterleave-requires
+deinterleave-requires c κs = search needs
+
+slice-aggregate-fields-of : tie.Need-slice-aggregate-fields-of
+slice-aggregate-fields-of c = search needs
+
+fields-of-requires : tie.Need-fields-of-requires
+fields-of-requires c κs = search needs
+
+returns : tie.Need-returns
+returns c =
+    let start = c .before .before .before .before .before .before .before .before .before in
+    c .fields-of .ensures
+    ∙ ap fieldsFrom
+    (c .before .before .before .before .deinterleave .ensures .1
+    ∙ first-taken (start .args .frame .now) (start .pre .0) (start .pre .1) (replicate 1200 0) (replicate 548 0) refl refl)
+
+pub subframe2-in-spec : {M : Type 1} → statement M
+subframe2-in-spec =
+    tie.close
+    (tie.spec
+    sub-deinterleave
+    part-deinterleave-start
+    part-deinterleave-end
+    slice-aggregate-deinterleave
+    slice-aggregate-deinterleave-2
+    deinterleave-requires
+    slice-aggregate-fields-of
+    fields-of-requires
+    returns)

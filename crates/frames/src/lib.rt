@@ -1,0 +1,4 @@
+// Whole frames: building them from contents, and reading them.
+mod block;
+pub mod build;
+pub mod read;
