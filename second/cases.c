@@ -6,175 +6,46 @@
  *   F3, U3           the same of subframe 3
  *
  * A block is written as 1200 (subframe 2) or 548 (subframe 3) characters 0 or 1, a place as four digits.
+ *
+ *   FB TOI COUNTS PAGE ANSWER FRAME
+ *       Building. The frame, unless it is refused, becomes the base, and its contents the base's contents.
+ *   FW COUNTS PAGE FRAME
+ *       A frame that no builder makes becomes the base. COUNTS and PAGE are what its bits stand for: what reading subframe 2 or 3
+ *       hands back unless it is refused.
+ *   FR LENGTH N PLACE VALUE ... READ TIME TOI CORRECTED TWO THREE
+ *       Reading the first LENGTH bytes of this: the base frame with N places set, and a 0 behind it. READ is the answer of reading
+ *       whole; TIME, TWO and THREE are those of reading the time, subframe 2 and subframe 3 alone. TOI and CORRECTED are what
+ *       reading the time gave, zeros where it is refused. A subframe that is not refused holds the base's counts or page bits; a
+ *       frame that is not refused holds both, with TOI and CORRECTED.
+ *
+ *   TOI        in FB 5 digits, in FR 3
+ *   COUNTS     33 counts with a space between them, in the order of subframe 2, each a sign + or - and 19 digits; zero is plus
+ *   PAGE       250 characters 0 or 1, or 2 for a byte 2
+ *   ANSWER     a refusal's number, 2 digits, a space, and its place, 4 digits; 00 0000 where nothing is refused. So are READ, TIME,
+ *              TWO and THREE
+ *   FRAME      450 hexadecimal digits, four symbols a digit, the first symbol the most significant; zeros on a refusal
+ *   LENGTH     4 digits, 0 to 1801
+ *   N          4 digits; then so many times PLACE, 4 digits, from 0, rising, and VALUE, 3 digits, 0 to 255
+ *   CORRECTED  2 digits
+ *
+ * A single space stands between the parts of a line.
  */
-#include "parity.h"
-#include "random.h"
+#include "frame_cases.h"
+#include "parity_cases.h"
 
 #include <stdio.h>
 
-/* One subframe's equations, and the block that the present case is made of. */
-struct maker {
-    char subframe;
-    struct parity parity;
-    unsigned char block[MOST_SYMBOLS];
-};
-
-static int data_count(const struct maker *maker)
-{
-    return maker->parity.h.equations;
-}
-
-static int symbol_count(const struct maker *maker)
-{
-    return maker->parity.h.symbols;
-}
-
-/* Printing. */
-
-static void print_block(const struct maker *maker)
-{
-    for (int i = 0; i < symbol_count(maker); i++)
-        putchar('0' + maker->block[i]);
-    putchar('\n');
-}
-
-static void print_filled(struct maker *maker)
-{
-    fill_parity(&maker->parity, maker->block);
-    printf("F%c ", maker->subframe);
-    print_block(maker);
-}
-
-static void print_unmet(const struct maker *maker)
-{
-    printf("U%c %04d ", maker->subframe, first_unmet(&maker->parity, maker->block));
-    print_block(maker);
-}
-
-/* Blocks that are filled. */
-
-static void set_data(struct maker *maker, unsigned char symbol)
-{
-    for (int i = 0; i < data_count(maker); i++)
-        maker->block[i] = symbol;
-}
-
-static void set_random_data(struct maker *maker)
-{
-    for (int i = 0; i < data_count(maker); i++)
-        maker->block[i] = (unsigned char)random_below(2);
-}
-
-static void print_single_one(struct maker *maker, int place)
-{
-    set_data(maker, 0);
-    maker->block[place] = 1;
-    print_filled(maker);
-}
-
-static void print_filled_cases(struct maker *maker)
-{
-    set_data(maker, 0);
-    print_filled(maker);
-    set_data(maker, 1);
-    print_filled(maker);
-    print_single_one(maker, 0);
-    print_single_one(maker, data_count(maker) - 1);
-    for (int i = 0; i < 60; i++) {
-        set_random_data(maker);
-        print_filled(maker);
-    }
-}
-
-/* Blocks with symbols turned. */
-
-static void make_good_block(struct maker *maker)
-{
-    set_random_data(maker);
-    fill_parity(&maker->parity, maker->block);
-}
-
-static void print_none_turned(struct maker *maker)
-{
-    make_good_block(maker);
-    print_unmet(maker);
-}
-
-static void print_one_turned(struct maker *maker, int place)
-{
-    make_good_block(maker);
-    maker->block[place] ^= 1;
-    print_unmet(maker);
-}
-
-/* Turns `count` times a symbol at random: a place that comes again is turned back. */
-static void print_some_turned(struct maker *maker, int count)
-{
-    make_good_block(maker);
-    for (int i = 0; i < count; i++)
-        maker->block[random_below(symbol_count(maker))] ^= 1;
-    print_unmet(maker);
-}
-
-static void print_one_equation_unmet(struct maker *maker, int equation)
-{
-    make_good_block(maker);
-    turn_one_equation(&maker->parity, maker->block, equation);
-    print_unmet(maker);
-}
-
-/* The ends of the data, p1, and the ends of p2. */
-static void print_turned_at_ends(struct maker *maker)
-{
-    int n = data_count(maker);
-    print_one_turned(maker, 0);
-    print_one_turned(maker, n - 1);
-    print_one_turned(maker, n);
-    print_one_turned(maker, n + 1);
-    print_one_turned(maker, symbol_count(maker) - 1);
-}
-
-static void print_ends_of_equations_unmet(struct maker *maker)
-{
-    int n = maker->parity.h.equations;
-    print_one_equation_unmet(maker, 1);
-    print_one_equation_unmet(maker, 2);
-    print_one_equation_unmet(maker, n - 1);
-    print_one_equation_unmet(maker, n);
-}
-
-static void print_unmet_cases(struct maker *maker)
-{
-    for (int i = 0; i < 5; i++)
-        print_none_turned(maker);
-    print_turned_at_ends(maker);
-    print_ends_of_equations_unmet(maker);
-    for (int i = 0; i < 10; i++)
-        print_one_turned(maker, random_below(data_count(maker)));
-    for (int i = 0; i < 12; i++)
-        print_one_equation_unmet(maker, 1 + random_below(maker->parity.h.equations));
-    for (int i = 0; i < 16; i++)
-        print_some_turned(maker, 2 + random_below(8));
-    for (int i = 0; i < 12; i++)
-        print_some_turned(maker, 100 + random_below(400));
-}
-
-static void print_cases(char subframe, const char *folder)
-{
-    static struct maker maker;
-    maker.subframe = subframe;
-    prepare_parity(&maker.parity, folder, subframe);
-    print_filled_cases(&maker);
-    print_unmet_cases(&maker);
-}
-
 int main(int count, char **words)
 {
+    static struct codes codes;
     if (count != 2) {
         fprintf(stderr, "usage: %s FOLDER-OF-TABLES\n", words[0]);
         return 2;
     }
-    print_cases('2', words[1]);
-    print_cases('3', words[1]);
+    prepare_parity(&codes.two, words[1], '2');
+    prepare_parity(&codes.three, words[1], '3');
+    print_parity_cases('2', &codes.two);
+    print_parity_cases('3', &codes.three);
+    print_frame_cases(&codes);
     return fflush(stdout) == 0 && !ferror(stdout) ? 0 : 1;
 }

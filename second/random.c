@@ -1,7 +1,5 @@
 #include "random.h"
 
-#include <stdint.h>
-
 static uint64_t state = 0x800123456789ABCD;
 
 static uint32_t next_number(void)
@@ -15,4 +13,11 @@ static uint32_t next_number(void)
 int random_below(int below)
 {
     return (int)(next_number() % (uint32_t)below);
+}
+
+int64_t random_between(int64_t least, int64_t largest)
+{
+    uint64_t high = next_number();
+    uint64_t number = high << 32 | next_number();
+    return least + (int64_t)(number % (uint64_t)(largest - least + 1));
 }
