@@ -1,27 +1,33 @@
 // The cases: each reads the rest of its line, and says whether the library answers as the second program did.
+use super::build_cases::built_agrees;
+use super::build_cases::written_agrees;
 use super::input::Kind;
-use super::input::is_place;
 use super::input::next_kind;
-use super::input::read_block;
-use super::input::read_place;
+use super::parity_cases::filled_three_agrees;
+use super::parity_cases::filled_two_agrees;
+use super::parity_cases::unmet_three_agrees;
+use super::parity_cases::unmet_two_agrees;
+use super::read_cases::read_agrees;
 use super::tally::Tally;
 use super::tally::nothing_yet;
 use super::tally::with_case;
-use parity::equations::first_unmet;
-use parity::fill::fill_parity;
-use tables::matrix::Subframe;
-use words::refusal::Answer;
-use words::refusal::EQUATION_2;
-use words::refusal::EQUATION_3;
+
+// The base is zeros until a case sets it.
+pub(crate) fn run_all() -> Tally {
+    let mut counts = [0i64; 33];
+    let mut page = [0u8; 250];
+    let mut frame = [0u8; 1800];
+    run_on(&mut counts, &mut page, &mut frame)
+}
 
 // A proved loop has to end, and nothing says that the input does. So the loop counts its turns down, from a number that no run
 // uses up.
-pub(crate) fn run_all() -> Tally {
+fn run_on(counts: &mut [i64; 33], page: &mut [u8; 250], frame: &mut [u8; 1800]) -> Tally {
     let mut tally = nothing_yet();
     let mut kind = next_kind();
     let mut turns = u64::MAX;
     while turns > 0 && is_case(kind) {
-        let is_agreed = agrees(kind);
+        let is_agreed = agrees(kind, counts, page, frame);
         tally = with_case(tally, kind, is_agreed);
         kind = next_kind();
         turns -= 1;
@@ -37,73 +43,21 @@ fn is_case(kind: Kind) -> bool {
     }
 }
 
-fn agrees(kind: Kind) -> bool {
+fn agrees(
+    kind: Kind,
+    counts: &mut [i64; 33],
+    page: &mut [u8; 250],
+    frame: &mut [u8; 1800],
+) -> bool {
     match kind {
         Kind::FilledTwo => filled_two_agrees(),
         Kind::FilledThree => filled_three_agrees(),
         Kind::UnmetTwo => unmet_two_agrees(),
         Kind::UnmetThree => unmet_three_agrees(),
-        _ => false,
-    }
-}
-
-fn filled_two_agrees() -> bool {
-    let mut expected = [0u8; 1200];
-    let mut block = [1u8; 1200];
-    filled_agrees(Subframe::Two, &mut expected, &mut block)
-}
-
-fn filled_three_agrees() -> bool {
-    let mut expected = [0u8; 548];
-    let mut block = [1u8; 548];
-    filled_agrees(Subframe::Three, &mut expected, &mut block)
-}
-
-// The block is lent with ones in it, so its parity is wrong until the library fills it.
-fn filled_agrees(subframe: Subframe, expected: &mut [u8], block: &mut [u8]) -> bool {
-    let is_read = read_block(expected);
-    copy_data(expected, block);
-    let answer = fill_parity(subframe, block);
-    is_read && is_done(answer) && check::same(block, expected)
-}
-
-// The first half of a block is its data.
-fn copy_data(from: &[u8], to: &mut [u8]) {
-    let mut i: usize = 0;
-    while i < from.len() / 2 && i < to.len() {
-        to[i] = from[i];
-        i += 1;
-    }
-}
-
-fn unmet_two_agrees() -> bool {
-    let mut block = [0u8; 1200];
-    unmet_agrees(Subframe::Two, EQUATION_2, &mut block)
-}
-
-fn unmet_three_agrees() -> bool {
-    let mut block = [0u8; 548];
-    unmet_agrees(Subframe::Three, EQUATION_3, &mut block)
-}
-
-fn unmet_agrees(subframe: Subframe, number: u8, block: &mut [u8]) -> bool {
-    let place = read_place();
-    let is_read = read_block(block);
-    let answer = first_unmet(subframe, block);
-    is_read && is_answer(answer, number, &place)
-}
-
-fn is_done(answer: Answer) -> bool {
-    match answer {
-        Answer::Done => true,
-        Answer::Refused(_) => false,
-    }
-}
-
-// Done stands for place 0, and a refusal with that number for every other.
-fn is_answer(answer: Answer, number: u8, place: &[u8; 5]) -> bool {
-    match answer {
-        Answer::Done => is_place(place, 0),
-        Answer::Refused(r) => r.number == number && r.place > 0 && is_place(place, r.place),
+        Kind::Built => built_agrees(counts, page, frame),
+        Kind::Written => written_agrees(counts, page, frame),
+        Kind::Read => read_agrees(counts, page, frame),
+        Kind::NoCase => false,
+        Kind::End => false,
     }
 }

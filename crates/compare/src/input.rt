@@ -6,9 +6,18 @@ pub(crate) enum Kind {
     FilledThree,
     UnmetTwo,
     UnmetThree,
+    Built,
+    Written,
+    Read,
     NoCase,
     End,
 }
+
+// What stands for a number where the text is none.
+const NO_NUMBER: usize = usize::MAX;
+
+// The largest number that still takes a digit behind it.
+const TAKES_A_DIGIT: usize = 1844674407370955160;
 
 pub(crate) fn next_kind() -> Kind {
     let mut word = [0u8; 3];
@@ -32,60 +41,95 @@ fn kind_of(word: &[u8; 3]) -> Kind {
     if check::same(word, b"U3 ") {
         return Kind::UnmetThree;
     }
+    kind_of_frame(word)
+}
+
+fn kind_of_frame(word: &[u8; 3]) -> Kind {
+    if check::same(word, b"FB ") {
+        return Kind::Built;
+    }
+    if check::same(word, b"FW ") {
+        return Kind::Written;
+    }
+    if check::same(word, b"FR ") {
+        return Kind::Read;
+    }
     Kind::NoCase
 }
+
+// The next character; 0 where there is none.
+pub(crate) fn next_character() -> u8 {
+    let mut text = [0u8; 1];
+    io::read_full(0, &mut text);
+    text[0]
+}
+
+pub(crate) fn is_next(character: u8) -> bool {
+    next_character() == character
+}
+
+// ---- symbols
 
 // Reads the symbols up to the line's end, and says whether they are symbols and the line ends behind them.
 pub(crate) fn read_block(block: &mut [u8]) -> bool {
     io::read_full(0, block);
-    let are_symbols = to_symbols(block);
-    let mut end = [0u8; 1];
-    io::read_full(0, &mut end);
-    are_symbols && check::same(&end, b"\n")
+    let are_symbols = to_values(block, 1);
+    let is_end = is_next(b'\n');
+    are_symbols && is_end
 }
 
-// Turns the characters 0 and 1 into symbols, up to the first that is neither, and says whether there is none.
-fn to_symbols(text: &mut [u8]) -> bool {
+// Reads page bits, of which a byte 2 may be one, and the space behind them, and says whether they are such.
+pub(crate) fn read_page(page: &mut [u8]) -> bool {
+    io::read_full(0, page);
+    let are_bits = to_values(page, 2);
+    let is_space = is_next(b' ');
+    are_bits && is_space
+}
+
+// Turns digits into their values, up to the first character that is no digit up to `most`, and says whether there is none.
+fn to_values(text: &mut [u8], most: u8) -> bool {
     let mut i: usize = 0;
     while i < text.len() {
-        if !is_symbol(text[i]) {
+        let value = digit(text[i]);
+        if value > most {
             return false;
         }
-        text[i] = symbol(text[i]);
+        text[i] = value;
         i += 1;
     }
     true
 }
 
-fn is_symbol(character: u8) -> bool {
-    character == b'0' || character == b'1'
-}
-
-fn symbol(character: u8) -> u8 {
-    if character == b'1' { 1 } else { 0 }
-}
-
-// Four digits and a space.
-pub(crate) fn read_place() -> [u8; 5] {
-    let mut text = [0u8; 5];
-    io::read_full(0, &mut text);
-    text
-}
-
-// Whether the text is that place.
-pub(crate) fn is_place(text: &[u8; 5], place: usize) -> bool {
-    digit(text[0]) == place / 1000
-        && digit(text[1]) == place / 100 % 10
-        && digit(text[2]) == place / 10 % 10
-        && digit(text[3]) == place % 10
-        && text[4] == b' '
-}
+// ---- numbers
 
 // The digit's value; more than any digit has where it is none.
-fn digit(character: u8) -> usize {
+fn digit(character: u8) -> u8 {
     if character >= b'0' && character <= b'9' {
-        (character - b'0') as usize
+        character - b'0'
     } else {
-        usize::MAX
+        u8::MAX
     }
+}
+
+// The number and one digit more behind it.
+fn with_digit(number: usize, value: u8) -> usize {
+    if number > TAKES_A_DIGIT {
+        return NO_NUMBER;
+    }
+    if value > 9 {
+        return NO_NUMBER;
+    }
+    number * 10 + value as usize
+}
+
+// Reads a number of so many digits and the character that has to stand behind them. Where they are not so, it is more than any
+// number of theirs.
+pub(crate) fn read_number(digits: u8, end: u8) -> usize {
+    let mut number: usize = 0;
+    let mut left = digits;
+    while left > 0 {
+        number = with_digit(number, digit(next_character()));
+        left -= 1;
+    }
+    if is_next(end) { number } else { NO_NUMBER }
 }

@@ -1,8 +1,13 @@
 // Runs the cases that the second program made, one to a line of the input, through the library. It prints how many of each kind
 // agree, and the number of each line that does not.
+mod build_cases;
 mod cases;
+mod contents;
 mod input;
+mod parity_cases;
+mod read_cases;
 mod tally;
+mod told;
 
 fn main() {
     let tally = cases::run_all();

@@ -1,33 +1,39 @@
-// How many cases were read, and how many of each kind agree.
+// How many lines were read, and how many cases of each kind agree.
 use super::input::Kind;
 use std::num::wrapping_add_u64;
 
 pub(crate) struct Tally {
-    cases: u64,
+    lines: u64,
     filled_two: u64,
     filled_three: u64,
     unmet_two: u64,
     unmet_three: u64,
+    built: u64,
+    written: u64,
+    read: u64,
 }
 
 pub(crate) fn nothing_yet() -> Tally {
     Tally {
-        cases: 0,
+        lines: 0,
         filled_two: 0,
         filled_three: 0,
         unmet_two: 0,
         unmet_three: 0,
+        built: 0,
+        written: 0,
+        read: 0,
     }
 }
 
 // The tally with one case more. A case that does not agree is printed.
 pub(crate) fn with_case(tally: Tally, kind: Kind, is_agreed: bool) -> Tally {
     let mut next = tally;
-    next.cases = one_more(tally.cases);
+    next.lines = one_more(tally.lines);
     if is_agreed {
         return with_agreed(next, kind);
     }
-    print_disagreement(next.cases);
+    print_disagreement(next.lines);
     next
 }
 
@@ -46,6 +52,15 @@ fn with_agreed(tally: Tally, kind: Kind) -> Tally {
         Kind::UnmetThree => {
             next.unmet_three = one_more(tally.unmet_three);
         }
+        Kind::Built => {
+            next.built = one_more(tally.built);
+        }
+        Kind::Written => {
+            next.written = one_more(tally.written);
+        }
+        Kind::Read => {
+            next.read = one_more(tally.read);
+        }
         _ => {}
     }
     next
@@ -62,11 +77,12 @@ fn print_disagreement(line: u64) {
 }
 
 pub(crate) fn print(tally: Tally) {
-    print_count(b"", tally.cases, b" cases of the second program\n");
+    print_count(b"", tally.lines, b" lines of the second program\n");
     print_filled(b"subframe 2: ", tally.filled_two);
     print_filled(b"subframe 3: ", tally.filled_three);
     print_unmet(b"subframe 2: ", tally.unmet_two);
     print_unmet(b"subframe 3: ", tally.unmet_three);
+    print_frames(tally.built, tally.written, tally.read);
 }
 
 fn print_filled(subframe: &[u8], count: u64) {
@@ -82,6 +98,20 @@ fn print_unmet(subframe: &[u8], count: u64) {
         subframe,
         count,
         b" blocks with the second program's first unmet equation, or none\n",
+    );
+}
+
+fn print_frames(built: u64, written: u64, read: u64) {
+    print_count(
+        b"",
+        built,
+        b" builds answered as the second program answers them\n",
+    );
+    print_count(b"", written, b" frames that no builder makes, to be read\n");
+    print_count(
+        b"",
+        read,
+        b" frames read as the second program reads them, whole and part by part\n",
     );
 }
 

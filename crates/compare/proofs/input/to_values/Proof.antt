@@ -1,39 +1,32 @@
--- `compare::input::to_symbols` is safe and ends. The text keeps its length; the measure is what is left of it.
--- Assumes nothing.
+-- `compare::input::to_values` is safe and ends. The text keeps its length; the measure is what is left of it. Assumes nothing.
 use mathlib.Core.Path.{_≡_}
 use Prim.Native.Nat.{_-_}
 use native.Mathlib.Omega.{arith}
 use lib.ListN.{length, length-set}
 use borrow.Author.Needs.{needs}
-use Rattle.compare.proofs.input.to_symbols.Statement.{statement}
-use Rattle.compare.proofs.input.to_symbols.Tie as tie
+use Rattle.compare.proofs.input.to_values.Statement.{statement}
+use Rattle.compare.proofs.input.to_values.Tie as tie
 
 abbrev Inv-loop : tie.InvT-loop
-Inv-loop text₀ i₀ text i = length text ≡ length text₀
+Inv-loop text₀ most i₀ text i = length text ≡ length text₀
 
 abbrev μ-loop : tie.MeasureT-loop
-μ-loop text₀ i₀ text i = length text₀ - i
+μ-loop text₀ most i₀ text i = length text₀ - i
 
 loop-holds : tie.Need-loop-holds Inv-loop μ-loop
 loop-holds c = search needs
 
-slice-read-is-symbol : tie.Need-slice-read-is-symbol Inv-loop μ-loop
-slice-read-is-symbol c = search needs
+slice-read-digit : tie.Need-slice-read-digit Inv-loop μ-loop
+slice-read-digit c = search needs
 
-is-symbol-requires : tie.Need-is-symbol-requires Inv-loop μ-loop
-is-symbol-requires c κs = search needs
+digit-requires : tie.Need-digit-requires Inv-loop μ-loop
+digit-requires c κs = search needs
 
 same-length : tie.Need-same-length Inv-loop μ-loop
 same-length c = search needs
 
 returns : tie.Need-returns Inv-loop μ-loop
 returns c = search needs
-
-slice-read-symbol : tie.Need-slice-read-symbol Inv-loop μ-loop
-slice-read-symbol c = search needs
-
-symbol-requires : tie.Need-symbol-requires Inv-loop μ-loop
-symbol-requires c κs = search needs
 
 slice-write-text : tie.Need-slice-write-text Inv-loop μ-loop
 slice-write-text c = search needs
@@ -53,19 +46,17 @@ same-length-2 c = search needs
 returns-2 : tie.Need-returns-2 Inv-loop μ-loop
 returns-2 c = search needs
 
-pub to-symbols-spec : {M : Type 1} → statement M
-to-symbols-spec =
+pub to-values-spec : {M : Type 1} → statement M
+to-values-spec =
     tie.close
     (tie.spec
     Inv-loop
     μ-loop
     loop-holds
-    slice-read-is-symbol
-    is-symbol-requires
+    slice-read-digit
+    digit-requires
     same-length
     returns
-    slice-read-symbol
-    symbol-requires
     slice-write-text
     add-i
     loop-less

@@ -1,12 +1,12 @@
--- `compare::cases::copy_data` is safe and ends. Both slices keep their lengths; the measure is what is left of `from`.
+-- `compare::parity_cases::copy_data` is safe and ends. Both slices keep their lengths; the measure is what is left of `from`.
 -- Assumes nothing.
 use mathlib.Core.Path.{_≡_}
 use Prim.Native.Nat.{_-_}
 use native.Mathlib.Omega.{arith}
 use lib.ListN.{length, length-set}
 use borrow.Author.Needs.{needs}
-use Rattle.compare.proofs.cases.copy_data.Statement.{statement}
-use Rattle.compare.proofs.cases.copy_data.Tie as tie
+use Rattle.compare.proofs.parity_cases.copy_data.Statement.{statement}
+use Rattle.compare.proofs.parity_cases.copy_data.Tie as tie
 
 abbrev Inv-loop : tie.InvT-loop
 Inv-loop from to₀ i₀ to i = length to ≡ length to₀

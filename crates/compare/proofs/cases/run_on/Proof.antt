@@ -1,14 +1,14 @@
--- `compare::cases::run_all` is safe and ends. Nothing has to hold from turn to turn, so the invariant is `Unit {0}`, the fact that
+-- `compare::cases::run_on` is safe and ends. Nothing has to hold from turn to turn, so the invariant is `Unit {0}`, the fact that
 -- says nothing. The measure is the number of turns that are left. Assumes nothing.
 use borrow.Author.Needs.{needs}
-use Rattle.compare.proofs.cases.run_all.Statement.{statement}
-use Rattle.compare.proofs.cases.run_all.Tie as tie
+use Rattle.compare.proofs.cases.run_on.Statement.{statement}
+use Rattle.compare.proofs.cases.run_on.Tie as tie
 
 abbrev Inv-loop : tie.InvT-loop
-Inv-loop tally₀ kind₀ turns₀ tally kind turns = Unit {0}
+Inv-loop counts₀ page₀ frame₀ tally₀ kind₀ turns₀ counts page frame tally kind turns = Unit {0}
 
 abbrev μ-loop : tie.MeasureT-loop
-μ-loop tally₀ kind₀ turns₀ tally kind turns = turns
+μ-loop counts₀ page₀ frame₀ tally₀ kind₀ turns₀ counts page frame tally kind turns = turns
 
 nothing-yet-requires : tie.Need-nothing-yet-requires Inv-loop μ-loop
 nothing-yet-requires c κs = search needs
@@ -46,8 +46,8 @@ returns c = search needs
 returns-2 : tie.Need-returns-2 Inv-loop μ-loop
 returns-2 c = search needs
 
-pub run-all-spec : {M : Type 1} → statement M
-run-all-spec =
+pub run-on-spec : {M : Type 1} → statement M
+run-on-spec =
     tie.close
     (tie.spec
     Inv-loop

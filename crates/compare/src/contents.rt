@@ -1,0 +1,116 @@
+// The contents and the symbols of frames, as the second program writes them.
+ghost use Prim.Native.Nat.{_≤_};
+use super::input::next_character;
+use super::input::read_number;
+use super::input::read_page;
+use words::bits::put_number;
+
+// The most that a count can be.
+const MOST: usize = 9223372036854775807;
+
+// ---- contents
+
+// Reads 33 counts and the space behind each, then 250 page bits and theirs, and says whether they are such.
+pub(crate) fn read_contents(counts: &mut [i64; 33], page: &mut [u8; 250]) -> bool {
+    let are_counts = read_counts(counts);
+    let are_bits = read_page(page);
+    are_counts && are_bits
+}
+
+// Up to the first that is no count.
+fn read_counts(counts: &mut [i64; 33]) -> bool {
+    let mut k: usize = 0;
+    while k < 33 {
+        let sign = next_character();
+        let number = read_number(19, b' ');
+        if !is_sign(sign) {
+            return false;
+        }
+        if number > MOST {
+            return false;
+        }
+        counts[k] = signed(sign, number);
+        k += 1;
+    }
+    true
+}
+
+fn is_sign(character: u8) -> bool {
+    character == b'+' || character == b'-'
+}
+
+fn signed(sign: u8, number: usize) -> i64
+    requires { ⌜ number ≤ 9223372036854775807 ⌝ }
+{
+    if number == 0 {
+        return 0;
+    }
+    if sign == b'-' {
+        below_zero(number - 1)
+    } else {
+        number as i64
+    }
+}
+
+// -(n + 1)
+fn below_zero(n: usize) -> i64
+    requires { ⌜ n ≤ 9223372036854775807 ⌝ }
+{
+    -1 - n as i64
+}
+
+pub(crate) fn copy_counts(from: &[i64; 33], into: &mut [i64; 33]) {
+    let mut k: usize = 0;
+    while k < 33 {
+        into[k] = from[k];
+        k += 1;
+    }
+}
+
+// ---- symbols
+
+// Reads 1800 symbols, four to a digit, and the line's end, and says whether they are such.
+pub(crate) fn read_symbols(frame: &mut [u8; 1800]) -> bool {
+    let mut text = [0u8; 450];
+    io::read_full(0, &mut text);
+    let are_symbols = unpack(&text, frame);
+    let is_end = next_character() == b'\n';
+    are_symbols && is_end
+}
+
+// Up to the first character that is no digit.
+fn unpack(text: &[u8; 450], frame: &mut [u8; 1800]) -> bool {
+    let mut i: usize = 0;
+    while i < 450 {
+        let four = four_symbols(text[i]);
+        if four > 15 {
+            return false;
+        }
+        put_number(frame, i * 4, 4, four);
+        i += 1;
+    }
+    true
+}
+
+// The value of a digit of sixteen; more than any has where it is none.
+fn four_symbols(character: u8) -> u64 {
+    if character >= b'0' && character <= b'9' {
+        return (character - b'0') as u64;
+    }
+    if character >= b'a' && character <= b'f' {
+        return (character - b'a') as u64 + 10;
+    }
+    u64::MAX
+}
+
+// Whether every byte is this one.
+pub(crate) fn all_are(bytes: &[u8], byte: u8) -> bool {
+    let mut i: usize = 0;
+    while i < bytes.len() {
+        if bytes[i] != byte {
+            return false;
+        }
+        i += 1;
+    }
+    true
+}
