@@ -8,6 +8,7 @@ pub mod Pages
 pub mod Clock
 pub mod CountsBack
 pub mod FieldsBack
+pub mod Delays
 pub mod PagesBack
 pub mod PagesRefused
 pub mod ClockTerms
