@@ -38,12 +38,7 @@
 int main(int count, char **words)
 {
     static struct codes codes;
-    if (count != 2) {
-        fprintf(stderr, "usage: %s FOLDER-OF-TABLES\n", words[0]);
-        return 2;
-    }
-    prepare_parity(&codes.two, words[1], '2');
-    prepare_parity(&codes.three, words[1], '3');
+    prepare_codes(&codes, count, words);
     print_parity_cases('2', &codes.two);
     print_parity_cases('3', &codes.three);
     print_frame_cases(&codes);

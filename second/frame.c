@@ -3,7 +3,19 @@
 #include "bits.h"
 #include "crc.h"
 
+#include <stdio.h>
+#include <stdlib.h>
 #include <string.h>
+
+void prepare_codes(struct codes *codes, int count, char **words)
+{
+    if (count != 2) {
+        fprintf(stderr, "usage: %s FOLDER-OF-TABLES\n", words[0]);
+        exit(2);
+    }
+    prepare_parity(&codes->two, words[1], '2');
+    prepare_parity(&codes->three, words[1], '3');
+}
 
 static struct answer refused(int number, int place)
 {

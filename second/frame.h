@@ -19,6 +19,9 @@ struct codes {
     struct parity three;
 };
 
+/* From the folder of tables that a program's words name; the program ends where they name none. */
+void prepare_codes(struct codes *codes, int count, char **words);
+
 struct contents {
     int toi;
     int corrected;

@@ -152,12 +152,7 @@ static void try_building(const struct codes *codes)
 int main(int count, char **words)
 {
     static struct codes codes;
-    if (count != 2) {
-        fprintf(stderr, "usage: %s FOLDER-OF-TABLES\n", words[0]);
-        return 2;
-    }
-    prepare_parity(&codes.two, words[1], '2');
-    prepare_parity(&codes.three, words[1], '3');
+    prepare_codes(&codes, count, words);
     try_time_words();
     try_word_distances();
     try_word_sums();

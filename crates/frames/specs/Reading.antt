@@ -33,13 +33,13 @@ use Rattle.frames.specs.declared.read.Frame.{Frame}
 use Rattle.frames.specs.declared.read.PageBits.{PageBits}
 
 -- the contents of what was read
-contentsOf : Frame → Contents
-contentsOf x = record { toi = x .toi; counts = x .counts; page = x .page }
+contentsRead : Frame → Contents
+contentsRead x = record { toi = x .toi; counts = x .counts; page = x .page }
 
 -- Reading gives contents and a number exactly if the contents are good, the first 52 symbols differ in that many places, at most nine,
 -- from the word of their time, and all else is as in a frame of them.
 pub read-exactly : (f : List ℕ) (c : Contents) (places : ℕ) → (frameRead f ≡ frameIs c places) ↔ (GoodContents c × ReadableAs c places f)
-unfolding contentsOf
+unfolding contentsRead
 read-exactly f c places = (so (answered (frameAnswer f)), λ h. reads-done c places f (h .0) (h .1))
   where
     so : Answered (frameAnswer f) → frameRead f ≡ frameIs c places → GoodContents c × ReadableAs c places f
@@ -47,7 +47,7 @@ read-exactly f c places = (so (answered (frameAnswer f)), λ h. reads-done c pla
         let both : frameIs (contentsIn f) (timeRead (timeIn f) .corrected) ≡ frameIs c places =
         sym (ap (λ (a : Answer). frameBy a (contentsIn f) (timeRead (timeIn f) .corrected)) e) ∙ r in
         let contents : contentsIn f ≡ c =
-        ap contentsOf both in
+        ap contentsRead both in
         let number : timeRead (timeIn f) .corrected ≡ places = ap (λ (x : Frame). x .corrected) both in
         rw contents at (rw number at (done-reads f e))
     so (refused n p e) r =
@@ -69,9 +69,9 @@ read-built c good =
 
 -- So different contents have different frames.
 pub frames-differ : (c d : Contents) → GoodContents c → GoodContents d → frameOf c ≡ frameOf d → c ≡ d
-unfolding contentsOf
+unfolding contentsRead
 frames-differ c d good-c good-d e =
-    ap contentsOf (sym (read-built c good-c) ∙ ap frameRead e ∙ read-built d good-d)
+    ap contentsRead (sym (read-built c good-c) ∙ ap frameRead e ∙ read-built d good-d)
 
 -- Building what was read gives the same symbols back, except the time symbols that were corrected, and the number reported is theirs.
 pub built-again : (f : List ℕ) (c : Contents) (places : ℕ) → frameRead f ≡ frameIs c places

@@ -7,7 +7,7 @@ ghost use Rattle.tables.specs.declared.matrix.Subframe.the-variants.{Two, Three
 ghost use Rattle.fields.specs.Pages.{PAGE-BITS, rangeAnswer};
 ghost use Rattle.frames.specs.Frame.{FRAME, subframeIn};
 ghost use Rattle.frames.specs.Read.{frameJudged, noFrame, noPageBits, pageBy, frameRead, timeAlone, subframe2Alone, subframe3Alone};
-ghost use Rattle.frames.specs.Laws.Steps.{fieldsFrom, pageFrom, frameWith, frameFrom};
+ghost use Rattle.frames.specs.Laws.Steps.{fieldsFrom, pageBitsFrom, frameWith, frameFrom};
 use super::block::judge_block;
 use fields::pages::judge_page;
 use fields::subframe2::Fields;
@@ -109,7 +109,7 @@ fn page_bits(bits: &[u8]) -> PageBits
 
 // The page bits of the block of subframe 3; refused 7, 8, then 9.
 fn page_of(three: &[u8]) -> PageBits
-    ensures { λ r. ⌜ r ≡ pageFrom (now (three .entry)) ⌝ }
+    ensures { λ r. ⌜ r ≡ pageBitsFrom (now (three .entry)) ⌝ }
 {
     match judge_block(Subframe::Three, three) {
         Answer::Refused(r) => no_page(r.number, r.place),
@@ -165,7 +165,7 @@ fn subframe2_in(frame: &[u8]) -> Fields
 
 fn subframe3_in(frame: &[u8]) -> PageBits
     requires { ⌜ (length (now frame) ≡ FRAME) × IsBits (now frame) ⌝ }
-    ensures { λ r. ⌜ r ≡ pageFrom (subframeIn Three (now (frame .entry))) ⌝ }
+    ensures { λ r. ⌜ r ≡ pageBitsFrom (subframeIn Three (now (frame .entry))) ⌝ }
 {
     let mut two = [0u8; 1200];
     let mut three = [0u8; 548];

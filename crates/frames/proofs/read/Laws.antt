@@ -39,7 +39,7 @@ use Rattle.frames.specs.Read.{checkBitsAnswer, rangesAnswer, subframeAns
 use Rattle.frames.specs.declared.read.PageBits.{PageBits}
 use Rattle.frames.specs.Laws.Blocks.{check-fits}
 use Rattle.frames.specs.Laws.Reading.{lent-on, lent-done}
-use Rattle.frames.specs.Laws.Steps.{blockAnswer, fieldsFrom, pageFrom, frameWith, frameFrom, turns}
+use Rattle.frames.specs.Laws.Steps.{blockAnswer, fieldsFrom, pageBitsFrom, frameWith, frameFrom, turns}
 
 -- ---- a block
 
@@ -76,10 +76,10 @@ fields-done y e =
     (judged-right BITS-2 (length l) l (fieldsAnswer l) (done-length Two y e) (done-bits Two y e)
     ∙ sym (block-then Two y Done e))
 
-pub page-refused : (y : List ℕ) (r : Refusal) → blockAnswer Three y ≡ Refused r → noPageBits (r .number) (r .place) ≡ pageFrom y
+pub page-refused : (y : List ℕ) (r : Refusal) → blockAnswer Three y ≡ Refused r → noPageBits (r .number) (r .place) ≡ pageBitsFrom y
 page-refused y r e = sym (ap (λ (a : Answer). pageBy a (take (bitsBefore Three) y)) (block-then Three y (Refused r) e))
 
-pub page-done : (y : List ℕ) → blockAnswer Three y ≡ Done → pageBy (rangeAnswer (take PAGE-BITS y)) (take PAGE-BITS y) ≡ pageFrom y
+pub page-done : (y : List ℕ) → blockAnswer Three y ≡ Done → pageBy (rangeAnswer (take PAGE-BITS y)) (take PAGE-BITS y) ≡ pageBitsFrom y
 page-done y e = sym (ap (λ (a : Answer). pageBy a (take PAGE-BITS y)) (block-then Three y Done e))
 
 -- 250 page bits are judged by their fields alone
@@ -116,7 +116,7 @@ page-copied bits old new e copied in-range =
     ∙ sym (ap (λ (a : Answer). pageBy a bits) in-range)
 
 -- the page that was read stands in the frame
-module _ (time : Time) (fields : Fields) (three : List ℕ) (page : PageBits) (is : page ≡ pageFrom three) where
+module _ (time : Time) (fields : Fields) (three : List ℕ) (page : PageBits) (is : page ≡ pageBitsFrom three) where
   three-answer : subframeAnswer Three three ≡ page .answer
   three-answer = sym (ap (λ (p : PageBits). p .answer) is ∙ page-answer (subframeAnswer Three three) (take (bitsBefore Three) three))
 
@@ -181,7 +181,7 @@ pub three-refused : (f : List ℕ) (r : Refusal) → frameJudged f Done ≡ Refu
 three-refused f r e =
     sym (ap (λ (a : Answer). pageBy a (bitsIn Three f)) (lent-refused f r e (subframeAnswer Three (subframeIn Three f))))
 
-pub three-done : (f : List ℕ) → frameJudged f Done ≡ Done → pageFrom (subframeIn Three f) ≡ subframe3Alone f
+pub three-done : (f : List ℕ) → frameJudged f Done ≡ Done → pageBitsFrom (subframeIn Three f) ≡ subframe3Alone f
 three-done f e =
     let lent = lent-done f Done e in
     sym (ap (λ (a : Answer). pageBy a (bitsIn Three f)) (lent-on f (lent .0) (lent .1) (subframeAnswer Three (subframeIn Three f))))

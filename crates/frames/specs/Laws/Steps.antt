@@ -33,8 +33,8 @@ abbrev pub fieldsFrom : List ℕ → Fields
 fieldsFrom two = fieldsBy (subframeAnswer Two two) (countsIn (fieldsIn Subframe2) (take (bitsBefore Two) two))
 
 -- the page of the block of subframe 3
-abbrev pub pageFrom : List ℕ → PageBits
-pageFrom three = pageBy (subframeAnswer Three three) (take (bitsBefore Three) three)
+abbrev pub pageBitsFrom : List ℕ → PageBits
+pageBitsFrom three = pageBy (subframeAnswer Three three) (take (bitsBefore Three) three)
 
 -- the frame that a time, fields and the block of subframe 3 give
 abbrev pub frameWith : Time → Fields → List ℕ → Frame

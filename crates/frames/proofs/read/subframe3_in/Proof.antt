@@ -1,7 +1,7 @@
 -- `frames::read::subframe3_in` meets its contract. Assumes nothing.
 use mathlib.Core.Path.{refl, ap, _∙_}
 use lib.ListN.{replicate}
-use Rattle.frames.specs.Laws.Steps.{pageFrom}
+use Rattle.frames.specs.Laws.Steps.{pageBitsFrom}
 use Rattle.frames.proofs.read.Laws.{second-taken}
 use borrow.Author.Needs.{needs}
 use Rattle.frames.proofs.read.subframe3_in.Statement.{statement}
@@ -35,7 +35,7 @@ returns : tie.Need-returns
 returns c =
     let start = c .before .before .before .before .before .before .before .before .before in
     c .page-of .ensures
-    ∙ ap pageFrom
+    ∙ ap pageBitsFrom
     (c .before .before .before .before .deinterleave .ensures .2
     ∙ second-taken (start .args .frame .now) (start .pre .0) (start .pre .1) (replicate 1200 0) (replicate 548 0) refl refl)
 
