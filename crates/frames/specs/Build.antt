@@ -8,6 +8,7 @@ use lib.IntN.{ℤ}
 use lib.ListN.{length}
 use Rattle.words.specs.Bits.{firstNotBit}
 use Rattle.words.specs.Refusal.{TIME, doneIf, inTurn, judged, leftBy}
+use Rattle.words.specs.Time.{LAST-TOI}
 use Rattle.words.specs.declared.refusal.Answer.{Answer}
 use Rattle.fields.specs.Subframe2.{COUNTS-2, countsAnswer}
 use Rattle.fields.specs.Pages.{PAGE-BITS, rangeAnswer}
@@ -23,7 +24,7 @@ buildLengths c out = eqb (length (c .counts)) COUNTS-2 && (eqb (length (c .page)
 
 -- judging contents that are to be built: the time, the counts, the page
 abbrev pub contentsAnswer : Contents → Answer
-contentsAnswer c = inTurn (doneIf (leb (c .toi) 399) TIME 0) (inTurn (countsAnswer (c .counts)) (rangeAnswer (c .page)))
+contentsAnswer c = inTurn (doneIf (leb (c .toi) LAST-TOI) TIME 0) (inTurn (countsAnswer (c .counts)) (rangeAnswer (c .page)))
 
 -- building c into lent bytes: the answer
 abbrev pub buildAnswer : Contents → List ℕ → Answer

@@ -8,7 +8,7 @@ use lib.ListN.{length, getD, drop}
 use Rattle.words.specs.Bits.{IsBits}
 use Rattle.words.specs.Crc.{Right}
 use Rattle.words.specs.Refusal.{LENGTH, NOT-A-BIT, TIME, FIELD-2, FIELD-3, numberOf, placeOf}
-use Rattle.words.specs.Time.{IsTime}
+use Rattle.words.specs.Time.{LAST-TOI, IsTime}
 use Rattle.words.specs.declared.refusal.Answer.{Answer}
 use Rattle.tables.specs.Matrix.{Matrix, matrixOf}
 use Rattle.tables.specs.declared.matrix.Subframe.{Subframe}
@@ -120,7 +120,7 @@ pub record AreLent (c : Contents) (out : List ℕ) : Type 0 where
 pub data BuildDue (c : Contents) (out : List ℕ) : ℕ → ℕ → Type 0 where
   size-due : (RightSizes c out → ⊥) → BuildDue c out LENGTH 0
   page-byte-due : (p : ℕ) → RightSizes c out → FirstByteAt (c .page) p → BuildDue c out NOT-A-BIT p
-  toi-due : AreLent c out → 399 < c .toi → BuildDue c out TIME 0
-  count-due : (p : ℕ) → AreLent c out → c .toi ≤ 399 → FirstOutAt 0 (fieldsIn Subframe2) (c .counts) p → BuildDue c out FIELD-2 p
-  page-field-due : (p : ℕ) → AreLent c out → c .toi ≤ 399 → AllInRange (fieldsIn Subframe2) (c .counts) → FieldOutAt Three (c .page) p
+  toi-due : AreLent c out → LAST-TOI < c .toi → BuildDue c out TIME 0
+  count-due : (p : ℕ) → AreLent c out → c .toi ≤ LAST-TOI → FirstOutAt 0 (fieldsIn Subframe2) (c .counts) p → BuildDue c out FIELD-2 p
+  page-field-due : (p : ℕ) → AreLent c out → c .toi ≤ LAST-TOI → AllInRange (fieldsIn Subframe2) (c .counts) → FieldOutAt Three (c .page) p
       → BuildDue c out FIELD-3 p

@@ -7,7 +7,7 @@ use lib.IntN.{ℤ, pos}
 use lib.ListN.{length, take, drop}
 use Rattle.words.specs.Bits.{IsBits}
 use Rattle.words.specs.Crc.{blockOf, Right}
-use Rattle.words.specs.Time.{timeWord, IsTime}
+use Rattle.words.specs.Time.{LAST-TOI, timeWord, IsTime}
 use Rattle.tables.specs.Matrix.{matrixOf}
 use Rattle.tables.specs.declared.matrix.Subframe.{Subframe}
 use Rattle.tables.specs.declared.matrix.Subframe.the-variants.{Two, Three}
@@ -29,7 +29,7 @@ pub record Contents : Type 0 where
 -- contents in document 01's ranges: TOI is 0 to 399, each count is in its field's range, the page is 250 bits, and where its number is 1
 -- the counts of page 1's fields are in theirs
 pub record GoodContents (c : Contents) : Type 0 where
-  pub time : c .toi ≤ 399
+  pub time : c .toi ≤ LAST-TOI
   pub fields : AllInRange (fieldsIn Subframe2) (c .counts)
   pub long : length (c .page) ≡ PAGE-BITS
   pub bits : IsBits (c .page)

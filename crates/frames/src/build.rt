@@ -7,7 +7,7 @@ ghost use lib.Dec.{eqb};
 ghost use lib.ListN.{length, take};
 ghost use Rattle.words.specs.Bits.{IsBits};
 ghost use Rattle.words.specs.Refusal.{inTurn, leftBy};
-ghost use Rattle.words.specs.Time.{timeWord};
+ghost use Rattle.words.specs.Time.{LAST-TOI, timeWord};
 ghost use Rattle.tables.specs.declared.matrix.Subframe.the-variants.{Three};
 ghost use Rattle.parity.specs.Order.{SYMBOLS-2, SYMBOLS-3, interleaved};
 ghost use Rattle.fields.specs.Subframe2.{COUNTS-2, BITS-2, countsAnswer, bits2};
@@ -27,6 +27,7 @@ use words::refusal::LENGTH;
 use words::refusal::NOT_A_BIT;
 use words::refusal::TIME;
 use words::refusal::refuse;
+use words::time::LAST_TOI;
 use words::time::write_time;
 
 // The counts, the page and the frame are as many as they must be.
@@ -53,7 +54,7 @@ fn write_page_block(page: &[u8], three: &mut [u8])
 
 // The symbols of a time and of both blocks, in order.
 fn write_symbols(toi: u16, two: &[u8], three: &[u8], frame: &mut [u8])
-    requires { ⌜ (toi ≤ 399) × (length (now two) ≡ SYMBOLS-2) × IsBits (now two)
+    requires { ⌜ (toi ≤ LAST-TOI) × (length (now two) ≡ SYMBOLS-2) × IsBits (now two)
         × (length (now three) ≡ SYMBOLS-3) × IsBits (now three) × (length (now frame) ≡ FRAME) ⌝ }
     ensures { λ r. ⌜ now (frame .exit) ≡ timeWord toi ++ interleaved (now (two .entry) ++ now (three .entry)) ⌝ }
 {
@@ -63,7 +64,7 @@ fn write_symbols(toi: u16, two: &[u8], three: &[u8], frame: &mut [u8])
 
 // The frame of a time, of the bits of subframe 2, which stand in front of its block, and of the page.
 fn write_frame(toi: u16, two: &mut [u8], page: &[u8], frame: &mut [u8])
-    requires { ⌜ (toi ≤ 399) × (length (now two) ≡ SYMBOLS-2) × IsBits (take BITS-2 (now two))
+    requires { ⌜ (toi ≤ LAST-TOI) × (length (now two) ≡ SYMBOLS-2) × IsBits (take BITS-2 (now two))
         × (length (now page) ≡ PAGE-BITS) × IsBits (now page) × (length (now frame) ≡ FRAME) ⌝ }
     ensures { λ r. ⌜ now (frame .exit) ≡ symbolsFrom toi (take BITS-2 (now (two .entry))) (now (page .entry)) ⌝ }
 {
@@ -75,7 +76,7 @@ fn write_frame(toi: u16, two: &mut [u8], page: &[u8], frame: &mut [u8])
 
 // Judges the counts and the page, and where nothing is refused writes the frame; `two` is room for the block of subframe 2.
 fn build_in(toi: u16, counts: &[i64], page: &[u8], two: &mut [u8], frame: &mut [u8]) -> Answer
-    requires { ⌜ (toi ≤ 399) × (length (now counts) ≡ COUNTS-2) × (length (now page) ≡ PAGE-BITS) × IsBits (now page)
+    requires { ⌜ (toi ≤ LAST-TOI) × (length (now counts) ≡ COUNTS-2) × (length (now page) ≡ PAGE-BITS) × IsBits (now page)
         × (length (now two) ≡ SYMBOLS-2) × (length (now frame) ≡ FRAME) ⌝ }
     ensures { λ r. ⌜ (r ≡ inTurn (countsAnswer (now (counts .entry))) (rangeAnswer (now (page .entry))))
         × (now (frame .exit) ≡ leftBy (inTurn (countsAnswer (now (counts .entry))) (rangeAnswer (now (page .entry))))
@@ -106,7 +107,7 @@ pub fn build(toi: u16, counts: &[i64], page: &[u8], frame: &mut [u8]) -> Answer
     if bad != page.len() {
         return refuse(NOT_A_BIT, bad);
     }
-    if 399 < toi {
+    if LAST_TOI < toi {
         return refuse(TIME, 0);
     }
     let mut two = [0u8; 1200];

@@ -38,16 +38,20 @@ topBit toi = toi / 2 ^ 8 % 2
 unfoldable pub timeWord : ℕ → List ℕ
 timeWord toi = topBit toi ∷ map (add2 (topBit toi)) (shiftedOut 51 (bitsOf 8 toi))
 
+-- TOI is 0 to 399 (document 01, "The frame")
+abbrev pub LAST-TOI : ℕ
+LAST-TOI = 399
+
 -- writing: 1 unless 52 bytes are lent, then 3 for a time over 399; on a refusal the bytes stay
 abbrev pub timeAnswer : List ℕ → ℕ → Answer
-timeAnswer out toi = cond (eqb (length out) 52) (doneIf (leb toi 399) TIME 0) (refusedAt LENGTH 0)
+timeAnswer out toi = cond (eqb (length out) 52) (doneIf (leb toi LAST-TOI) TIME 0) (refusedAt LENGTH 0)
 
 abbrev pub timeBytes : List ℕ → ℕ → List ℕ
-timeBytes out toi = leftIf (eqb (length out) 52 && leb toi 399) (timeWord toi) out
+timeBytes out toi = leftIf (eqb (length out) 52 && leb toi LAST-TOI) (timeWord toi) out
 
 -- a time from 0 to 399 whose word differs from the symbols in so many places, at most nine
 pub record IsTime (s : List ℕ) (toi places : ℕ) : Type 0 where
-  pub used : toi ≤ 399
+  pub used : toi ≤ LAST-TOI
   pub counted : differing s (timeWord toi) ≡ places
   pub near : places ≤ 9
 

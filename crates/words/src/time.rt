@@ -13,6 +13,9 @@ use super::refusal::NOT_A_BIT;
 use super::refusal::TIME;
 use super::refusal::refuse;
 
+// The times are 0 to this one.
+pub const LAST_TOI: u16 = 399;
+
 // What reading a time word gives: the time, and how many of the 52 symbols differ from its word; zeros beside a refusal.
 pub struct Time {
     pub answer: Answer,
@@ -60,7 +63,7 @@ pub fn write_time(out: &mut [u8], toi: u16) -> Answer
     if out.len() != 52 {
         return refuse(LENGTH, 0);
     }
-    if 399 < toi {
+    if LAST_TOI < toi {
         return refuse(TIME, 0);
     }
     write_word(out, toi);
