@@ -4,6 +4,3 @@ pub mod Counts
 pub mod Subframe2
 pub mod Answers
 pub mod Pages
-pub mod OneValue
-pub mod Terms
-pub mod ClockAnswers

@@ -5,11 +5,9 @@ pub mod Counts
 pub mod Subframe2
 pub mod Delay
 pub mod Pages
-pub mod Clock
 pub mod CountsBack
 pub mod FieldsBack
 pub mod Delays
 pub mod PagesBack
 pub mod PagesRefused
-pub mod ClockTerms
 pub mod Laws

@@ -67,6 +67,10 @@ rightLengths2 zs out = eqb (length zs) COUNTS-2 && eqb (length out) BITS-2
 abbrev pub countsAnswer : List ℤ → Answer
 countsAnswer zs = outAnswer FIELD-2 0 (fieldsIn Subframe2) zs
 
+-- judging 33 counts: refused 1, then 6
+abbrev pub countsJudged : List ℤ → Answer
+countsJudged zs = inTurn (doneIf (eqb (length zs) COUNTS-2) LENGTH 0) (countsAnswer zs)
+
 -- writing 33 counts into 576 bytes: refused 1, then 6
 abbrev pub fieldsWritten : List ℤ → List ℕ → Answer
 fieldsWritten zs out = inTurn (doneIf (rightLengths2 zs out) LENGTH 0) (countsAnswer zs)

@@ -1,5 +1,4 @@
-// The fields that frames carry: those of subframe 2, the pages of subframe 3, the clock terms.
-pub mod clock;
+// The fields that frames carry: those of subframe 2 and the pages of subframe 3.
 pub mod counts;
 pub mod delay;
 pub mod pages;

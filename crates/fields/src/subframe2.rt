@@ -3,7 +3,7 @@ ghost use mathlib.Core.Path.{_≡_};
 ghost use lib.ListN.{length};
 ghost use Rattle.fields.specs.Table.{fieldsIn};
 ghost use Rattle.fields.specs.Counts.{countsIn};
-ghost use Rattle.fields.specs.Subframe2.{BITS-2, noFields, fieldsBy, fieldsAnswer, fieldsRead, fieldsWritten, fieldsBytes};
+ghost use Rattle.fields.specs.Subframe2.{BITS-2, noFields, fieldsBy, fieldsAnswer, fieldsRead, countsJudged, fieldsWritten, fieldsBytes};
 ghost use Rattle.fields.specs.declared.table.Table.the-variants.{Subframe2};
 use super::counts::first_out;
 use super::counts::read_counts;
@@ -137,22 +137,34 @@ pub fn read_fields(bits: &[u8]) -> Fields
     judged_fields(bits)
 }
 
-// The bits of 33 counts, into 576 bytes; refused 1, then 6 at the first bit of the first field out of range.
-pub fn write_fields(counts: &[i64], bits: &mut [u8]) -> Answer
-    ensures { λ r. ⌜ (r ≡ fieldsWritten (now (counts .entry)) (now (bits .entry)))
-        × (now (bits .exit) ≡ fieldsBytes (now (counts .entry)) (now (bits .entry))) ⌝ }
+// Judges 33 counts: refused 1 at 0 for another number of counts, then 6 at the first bit of the first field out of range.
+pub fn judge_counts(counts: &[i64]) -> Answer
+    ensures { λ r. ⌜ r ≡ countsJudged (now (counts .entry)) ⌝ }
 {
     if counts.len() != 33 {
-        return refuse(LENGTH, 0);
-    }
-    if bits.len() != 576 {
         return refuse(LENGTH, 0);
     }
     let out = first_out(Table::Subframe2, 0, counts);
     if out != 0 {
         return refuse(FIELD_2, out);
     }
-    write_counts(Table::Subframe2, counts, bits, 0);
-    put_number(bits, bit_count(Table::Subframe2), 10, 0);
     Answer::Done
+}
+
+// The bits of 33 counts, into 576 bytes; refused 1, then 6 at the first bit of the first field out of range.
+pub fn write_fields(counts: &[i64], bits: &mut [u8]) -> Answer
+    ensures { λ r. ⌜ (r ≡ fieldsWritten (now (counts .entry)) (now (bits .entry)))
+        × (now (bits .exit) ≡ fieldsBytes (now (counts .entry)) (now (bits .entry))) ⌝ }
+{
+    if bits.len() != 576 {
+        return refuse(LENGTH, 0);
+    }
+    match judge_counts(counts) {
+        Answer::Refused(r) => refuse(r.number, r.place),
+        Answer::Done => {
+            write_counts(Table::Subframe2, counts, bits, 0);
+            put_number(bits, bit_count(Table::Subframe2), 10, 0);
+            Answer::Done
+        }
+    }
 }

@@ -1,6 +1,6 @@
-// Calls every public function of `fields` with good, empty, short, long and garbage-filled slices and with extreme numbers, and prints a
-// line for each: what is expected, and whether it is so.
-mod clock;
+// Calls every public function of `fields` and `clock` with good, empty, short, long and garbage-filled slices and with extreme numbers, and
+// prints a line for each: what is expected, and whether it is so.
+mod clock_of;
 mod counts;
 mod pages;
 mod places;
@@ -44,10 +44,10 @@ fn of_subframe2() {
 }
 
 fn of_clock() {
-    clock::known();
-    clock::ends();
-    clock::zeros();
-    clock::too_large();
+    clock_of::known();
+    clock_of::ends();
+    clock_of::zeros();
+    clock_of::too_large();
     terms::known();
     terms::no_numbers();
     terms::no_counts();

@@ -1,7 +1,7 @@
-// The function `counts_of` of `fields::clock`.
-use fields::clock::Clock;
-use fields::clock::ClockCounts;
-use fields::clock::counts_of;
+// The function `counts_of` of `clock::clock`.
+use clock::clock::Clock;
+use clock::clock::ClockCounts;
+use clock::clock::counts_of;
 use show::expected;
 use show::is_done;
 use show::is_refused;

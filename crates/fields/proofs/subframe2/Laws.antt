@@ -9,15 +9,16 @@ use lib.Dec.{eqb, lit<}
 use lib.IntN.{ℤ}
 use lib.ListN.{length, take, drop, drop-of-length-le}
 use lib.Seq.{take-at}
-use borrow.Author.Tests.{eq-eqb, ne-eqb}
+use borrow.Author.Tests.{eq-eqb, ne-eqb, eqb-true}
 use Rattle.words.specs.Bits.{firstNotBit, valueOf, bitsOf, bitsAt, numberBytes}
-use Rattle.words.specs.Refusal.{LENGTH, NOT-A-BIT, FIELD-2, refusedAt, doneIf, inTurn, leftIf}
+use Rattle.words.specs.Refusal.{LENGTH, NOT-A-BIT, FIELD-2, refusedAt, doneIf, inTurn, leftIf, leftBy}
 use Rattle.words.specs.Laws.Digits.{bits-none, none-not-bit}
+use Rattle.words.specs.Laws.Turns.{both-done, test-done}
 use Rattle.words.specs.declared.refusal.Answer.{Answer}
 use Rattle.words.specs.declared.refusal.Answer.the-variants.{Done}
 use Rattle.fields.specs.Table.{fieldsIn, bitCount}
 use Rattle.fields.specs.Counts.{countsIn, bitsOfCounts, firstOut}
-use Rattle.fields.specs.Subframe2.{bits2, firstOut2, fieldsAnswer, noFields, fieldsBy, fieldsRead, rightLengths2, fieldsWritten, fieldsBytes}
+use Rattle.fields.specs.Subframe2.{bits2, firstOut2, fieldsAnswer, noFields, fieldsBy, fieldsRead, countsAnswer, countsJudged, fieldsWritten, fieldsBytes}
 use Rattle.fields.specs.Laws.Answers.{judgedBits, judged-right, judged-length, judged-byte}
 use Rattle.fields.specs.Laws.Table.{count-subframe2, bits-subframe2}
 use Rattle.fields.specs.Laws.Counts.{outOfTwo}
@@ -91,38 +92,70 @@ module _ (l : List ℕ) where
   right-bits e p q n =
       by-answer (fieldsAnswer l) (judged-right 576 (length l) l (fieldsAnswer l) e (none-not-bit l (sym q ∙ n)))
 
+-- ---- judging counts
+
+module _ (zs : List ℤ) where
+  pub too-many : (length zs ≡ 33 → ⊥) → refusedAt LENGTH 0 ≡ countsJudged zs
+  too-many n = ap (λ (t : Bool). inTurn (doneIf t LENGTH 0) (countsAnswer zs)) (sym (ne-eqb (length zs) 33 n))
+
+  by-first : (p : ℕ) → p ≡ firstOut 0 (fieldsIn Subframe2) zs → length zs ≡ 33 → doneIf (eqb p 0) FIELD-2 p ≡ countsJudged zs
+  by-first p e n =
+      ap (λ (q : ℕ). doneIf (eqb q 0) FIELD-2 q) e ∙ ap (λ (t : Bool). inTurn (doneIf t LENGTH 0) (countsAnswer zs)) (sym (eq-eqb (length zs) 33 n))
+
+  pub some-out : (p : ℕ) → p ≡ firstOut 0 (fieldsIn Subframe2) zs → length zs ≡ 33 → (p ≡ 0 → ⊥) → refusedAt FIELD-2 p ≡ countsJudged zs
+  some-out p e n z = ap (λ (t : Bool). doneIf t FIELD-2 p) (sym (ne-eqb p 0 z)) ∙ by-first p e n
+
+  pub none-out : (p : ℕ) → p ≡ firstOut 0 (fieldsIn Subframe2) zs → length zs ≡ 33 → p ≡ 0 → Done ≡ countsJudged zs
+  none-out p e n z = ap (λ (t : Bool). doneIf t FIELD-2 p) (sym (eq-eqb p 0 z)) ∙ by-first p e n
+
+  -- counts that are not refused are 33 and in range
+  pub done-counts : countsJudged zs ≡ Done → (length zs ≡ 33) × (firstOut 0 (fieldsIn Subframe2) zs ≡ 0)
+  done-counts e =
+      let b = both-done (doneIf (eqb (length zs) 33) LENGTH 0) (countsAnswer zs) e in (
+        eqb-true (length zs) 33 (test-done (eqb (length zs) 33) LENGTH 0 (b .0)),
+        eqb-true (firstOut 0 (fieldsIn Subframe2) zs) 0 (test-done (eqb (firstOut 0 (fieldsIn Subframe2) zs) 0) FIELD-2 (firstOut 0 (fieldsIn Subframe2) zs) (b .1)),
+      )
+
 -- ---- writing
 
 module _ (zs : List ℤ) (out : List ℕ) where
-  -- what is answered and left, by the two tests
-  by-tests : (long none : Bool) → rightLengths2 zs out ≡ long → eqb (firstOut 0 (fieldsIn Subframe2) zs) 0 ≡ none
-      → (inTurn (doneIf long LENGTH 0) (doneIf none FIELD-2 (firstOut 0 (fieldsIn Subframe2) zs)) ≡ fieldsWritten zs out)
-      × (leftIf (long && none) (bits2 zs) out ≡ fieldsBytes zs out)
-  by-tests long none e f = (
-    ap₂ (λ (s t : Bool). inTurn (doneIf s LENGTH 0) (doneIf t FIELD-2 (firstOut 0 (fieldsIn Subframe2) zs))) (sym e) (sym f),
-    ap₂ (λ (s t : Bool). leftIf (s && t) (bits2 zs) out) (sym e) (sym f),
-  )
+  pub wrong-length-out : (r : Answer) → (length out ≡ 576 → ⊥) → r ≡ refusedAt LENGTH 0 → (r ≡ fieldsWritten zs out) × (out ≡ fieldsBytes zs out)
+  wrong-length-out r n q = go (eqb (length zs) 33) (eqb (length out) 576) (ne-eqb (length out) 576 n)
+    where
+      none : Bool
+      none = eqb (firstOut 0 (fieldsIn Subframe2) zs) 0
 
-  pub wrong-lengths : (r : Answer) → rightLengths2 zs out ≡ false → r ≡ refusedAt LENGTH 0
+      go : (s t : Bool) → t ≡ false → (r ≡ inTurn (doneIf (s && t) LENGTH 0) (countsAnswer zs)) × (out ≡ leftIf (s && t && none) (bits2 zs) out)
+      go true true e = absurd (let z : _≡_ {A = ℕ} 0 1 = cc in omega arith)
+      go true false e = (q, refl)
+      go false t e = (q, refl)
+
+  -- into 576 bytes, the counts alone decide
+  pub by-counts : length out ≡ 576 → (fieldsWritten zs out ≡ countsJudged zs) × (fieldsBytes zs out ≡ leftBy (countsJudged zs) (bits2 zs) out)
+  by-counts m = go (eqb (length zs) 33) (eqb (firstOut 0 (fieldsIn Subframe2) zs) 0) (eqb (length out) 576) (eq-eqb (length out) 576 m)
+    where
+      p : ℕ
+      p = firstOut 0 (fieldsIn Subframe2) zs
+
+      go : (s none t : Bool) → t ≡ true
+          → (inTurn (doneIf (s && t) LENGTH 0) (doneIf none FIELD-2 p) ≡ inTurn (doneIf s LENGTH 0) (doneIf none FIELD-2 p))
+          × (leftIf (s && t && none) (bits2 zs) out ≡ leftBy (inTurn (doneIf s LENGTH 0) (doneIf none FIELD-2 p)) (bits2 zs) out)
+      go true true true e = (refl, refl)
+      go true false true e = (refl, refl)
+      go false none true e = (refl, refl)
+      go s none false e = absurd (let z : _≡_ {A = ℕ} 0 1 = cc in omega arith)
+
+  pub judged-refused : length out ≡ 576 → (r : Answer) (n p : ℕ) → r ≡ refusedAt n p → countsJudged zs ≡ refusedAt n p
       → (r ≡ fieldsWritten zs out) × (out ≡ fieldsBytes zs out)
-  wrong-lengths r e q =
-      let b = by-tests false (eqb (firstOut 0 (fieldsIn Subframe2) zs) 0) e refl in
-      (q ∙ b .0, b .1)
+  judged-refused m r n p q e =
+      let b = by-counts m in
+      (q ∙ sym e ∙ sym (b .0), sym (b .1 ∙ ap (λ (a : Answer). leftBy a (bits2 zs) out) e))
 
-  right-lengths : length zs ≡ 33 → length out ≡ 576 → rightLengths2 zs out ≡ true
-  right-lengths n m = and-eq-true-iff (eqb (length zs) 33) (eqb (length out) 576) .1 (eq-eqb (length zs) 33 n, eq-eqb (length out) 576 m)
-
-  pub wrong-counts : length zs ≡ 33 → length out ≡ 576 → (r : Answer) (p : ℕ) → p ≡ firstOut 0 (fieldsIn Subframe2) zs → (p ≡ 0 → ⊥)
-      → r ≡ refusedAt FIELD-2 p → (r ≡ fieldsWritten zs out) × (out ≡ fieldsBytes zs out)
-  wrong-counts n m r p e z q =
-      let b = by-tests true false (right-lengths n m) (ne-eqb (firstOut 0 (fieldsIn Subframe2) zs) 0 (λ x. z (e ∙ x))) in
-      (q ∙ ap (refusedAt FIELD-2) e ∙ b .0, b .1)
-
-  pub right-counts : length zs ≡ 33 → length out ≡ 576 → firstOut 0 (fieldsIn Subframe2) zs ≡ 0 → (new : List ℕ) → new ≡ bits2 zs
+  pub judged-done : length out ≡ 576 → countsJudged zs ≡ Done → (new : List ℕ) → new ≡ bits2 zs
       → (Done ≡ fieldsWritten zs out) × (new ≡ fieldsBytes zs out)
-  right-counts n m e new q =
-      let b = by-tests true true (right-lengths n m) (eq-eqb (firstOut 0 (fieldsIn Subframe2) zs) 0 e) in
-      (b .0, q ∙ b .1)
+  judged-done m e new q =
+      let b = by-counts m in
+      (sym (b .0 ∙ e), q ∙ sym (b .1 ∙ ap (λ (a : Answer). leftBy a (bits2 zs) out) e))
 
   -- the bits of the counts, and behind them ten zeros
   pub written-bits2 : (row : List ℕ) (end : ℕ) → length zs ≡ 33 → length row ≡ 576 → end ≡ bitCount (fieldsIn Subframe2)

@@ -1,10 +1,10 @@
--- `fields::clock::no_counts` meets its contract. Assumes nothing.
+-- `clock::clock::no_counts` meets its contract. Assumes nothing.
 use mathlib.Core.Path.{ap}
 use lib.IntN.{pos}
 use borrow.Author.Needs.{needs}
 use Rattle.words.specs.declared.refusal.Answer.{Answer}
-use Rattle.fields.proofs.clock.no_counts.Statement.{statement}
-use Rattle.fields.proofs.clock.no_counts.Tie as tie
+use Rattle.clock.proofs.clock.no_counts.Statement.{statement}
+use Rattle.clock.proofs.clock.no_counts.Tie as tie
 
 refuse-requires : tie.Need-refuse-requires
 refuse-requires c κs = search needs

@@ -17,8 +17,8 @@ use lib.Ieee.Back.{round-whole}
 use lib.Ieee.Scale.{round-same}
 use lib.Ieee.Bits.{nanBits-is}
 use borrow.Author.Tests.{lt-leb, ne-eqb}
-use Rattle.fields.specs.Clock.{negative, termOf}
-use Rattle.fields.specs.Laws.Terms.{term-exact}
+use Rattle.clock.specs.Clock.{negative, termOf}
+use Rattle.clock.specs.Laws.Terms.{term-exact}
 
 -- ---- products
 

@@ -14,15 +14,15 @@ use lib.Ieee.{Float, nan, inf, fin, binary64, fits}
 use Rattle.words.specs.Refusal.{FIELD-2, numberOf}
 use Rattle.words.specs.declared.refusal.Answer.{Answer}
 use Rattle.words.specs.declared.refusal.Answer.the-variants.{Done, Refused}
 use Rattle.fields.specs.Table.{subframe2Rows, atMost, firstBit}
-use Rattle.fields.specs.Clock.{Exactly, termOf, countIn, AF0, AF1, AF2, STEP0, STEP1, STEP2, clockField, signedField, clockAnswer, Refused6, plusZero, zeroClock, clockTerms, clockBy, isCountOf, clockTaken, isCount, theCount, countsBy, countsOfThree, clockCounts}
-use Rattle.fields.specs.Laws.Terms.{term-exact, only-exact, range-53, exact-back, term-back, count-exact, only-counts}
-use Rattle.fields.specs.Laws.ClockAnswers.{first-bits, signed-fields, narrow-fields, answer-done, wrong0, wrong1, wrong2, none-wrong}
 use Rattle.fields.specs.declared.table.Table.the-variants.{Subframe2}
-use Rattle.fields.specs.declared.clock.Clock.{Clock}
-use Rattle.fields.specs.declared.clock.ClockTaken.{ClockTaken}
-use Rattle.fields.specs.declared.clock.Count.{Count}
-use Rattle.fields.specs.declared.clock.Count.the-variants.{Is, Not}
+use Rattle.clock.specs.Clock.{Exactly, termOf, countIn, AF0, AF1, AF2, STEP0, STEP1, STEP2, clockField, signedField, clockAnswer, Refused6, plusZero, zeroClock, clockTerms, clockBy, isCountOf, clockTaken, isCount, theCount, countsBy, countsOfThree, clockCounts}
+use Rattle.clock.specs.Laws.Terms.{term-exact, only-exact, range-53, exact-back, term-back, count-exact, only-counts}
+use Rattle.clock.specs.Laws.ClockAnswers.{first-bits, signed-fields, narrow-fields, answer-done, wrong0, wrong1, wrong2, none-wrong}
+use Rattle.clock.specs.declared.clock.Clock.{Clock}
+use Rattle.clock.specs.declared.clock.ClockTaken.{ClockTaken}
+use Rattle.clock.specs.declared.clock.Count.{Count}
+use Rattle.clock.specs.declared.clock.Count.the-variants.{Is, Not}
 
 -- ---- the rows of the table
 

@@ -1,4 +1,4 @@
--- `fields::clock::has_width` meets its contract. Assumes nothing.
+-- `clock::clock::has_width` meets its contract. Assumes nothing.
 use mathlib.Core.Path.{_≡_, _∙_}
 use mathlib.Core.Bool.{_&&_}
 use Prim.Native.Nat.{ℕ, _-_, _*_, _%_, _^_}
@@ -12,8 +12,8 @@ use mir.ValLaws.{toZ-ofZ}
 use borrow.Author.Needs.{needs}
 use borrow.Author.Tests.{le-leb, lt-ltb, leb-true, ltb-true}
 use Rattle.words.specs.Laws.Tests.{same-test}
-use Rattle.fields.proofs.clock.has_width.Statement.{statement}
-use Rattle.fields.proofs.clock.has_width.Tie as tie
+use Rattle.clock.proofs.clock.has_width.Statement.{statement}
+use Rattle.clock.proofs.clock.has_width.Tie as tie
 
 magnitude-requires : tie.Need-magnitude-requires
 magnitude-requires c κs = search needs

@@ -9,9 +9,9 @@ use lib.Dec.{lit<}
 use Rattle.words.specs.Refusal.{FIELD-2, refusedAt, numberOf, placeOf}
 use Rattle.words.specs.declared.refusal.Answer.{Answer}
 use Rattle.words.specs.declared.refusal.Answer.the-variants.{Done}
 use Rattle.fields.specs.Table.{subframe2Rows, fieldsIn, bitCount, firstBit}
-use Rattle.fields.specs.Clock.{AF0, AF1, AF2, clockField, signedField, clockAnswer, Refused6}
 use Rattle.fields.specs.declared.table.Table.the-variants.{Subframe2}
+use Rattle.clock.specs.Clock.{AF0, AF1, AF2, clockField, signedField, clockAnswer, Refused6}
 
 -- the rows' first bits
 pub first-bits : (firstBit Subframe2 AF0 ≡ 471) × (firstBit Subframe2 AF1 ≡ 497) × (firstBit Subframe2 AF2 ≡ 517)

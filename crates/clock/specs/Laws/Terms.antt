@@ -13,13 +13,13 @@ use lib.Ieee.{Float, nan, inf, fin, binary64, up, down, round, fits}
 use lib.Ieee.Exact.{HasValue, round-exact}
 use lib.Ieee.Fits.{round-fits, down-pos}
 use borrow.Author.Tests.{eqb-true, ne-eqb}
 use Rattle.fields.specs.Counts.{inRange}
-use Rattle.fields.specs.Clock.{negative, Exactly, termOf, withSign, wholeIn, countIn}
 use Rattle.fields.specs.Laws.Counts.{range-most}
-use Rattle.fields.specs.Laws.OneValue.{one-value}
 use Rattle.fields.specs.declared.table.Field.{Field}
-use Rattle.fields.specs.declared.clock.Count.{Count}
-use Rattle.fields.specs.declared.clock.Count.the-variants.{Is, Not}
+use Rattle.clock.specs.Clock.{negative, Exactly, termOf, withSign, wholeIn, countIn}
+use Rattle.clock.specs.Laws.OneValue.{one-value}
+use Rattle.clock.specs.declared.clock.Count.{Count}
+use Rattle.clock.specs.declared.clock.Count.the-variants.{Is, Not}
 
 -- ---- a count's term
 

@@ -1,8 +1,8 @@
--- `fields::clock::power` meets its contract: a power of two has only exponent bits. Assumes nothing.
+-- `clock::clock::power` meets its contract: a power of two has only exponent bits. Assumes nothing.
 use borrow.Author.Needs.{needs}
-use Rattle.fields.proofs.clock.Powers.{power-bits, power-no-nan}
-use Rattle.fields.proofs.clock.power.Statement.{statement}
-use Rattle.fields.proofs.clock.power.Tie as tie
+use Rattle.clock.proofs.clock.Powers.{power-bits, power-no-nan}
+use Rattle.clock.proofs.clock.power.Statement.{statement}
+use Rattle.clock.proofs.clock.power.Tie as tie
 
 mul-result : tie.Need-mul-result
 mul-result c = search needs

@@ -1,4 +1,4 @@
--- `fields::clock::count_of` meets its contract: each way out by its law of `clock.Laws`. Assumes nothing.
+-- `clock::clock::count_of` meets its contract: each way out by its law of `clock.Laws`. Assumes nothing.
 use mathlib.Core.Path.{_≡_, sym, ap, _∙_, subst}
 use mathlib.Core.Bool.{true}
 use Prim.Native.Nat.{_^_}
@@ -10,13 +10,13 @@ use mir.Syntax.{w64}
 use mir.Val.{toZ, ofZ}
 use mir.ValLaws.{toZ-ofZ}
 use borrow.Author.Needs.{needs}
 use Rattle.fields.specs.Counts.{inRange}
-use Rattle.fields.specs.Clock.{negative, termOf, signedField}
 use Rattle.fields.specs.Laws.Counts.{range-most}
-use Rattle.fields.specs.Laws.Terms.{term-exact, range-53}
-use Rattle.fields.proofs.clock.Laws.{Scaled, narrow, no-nan, value-no-nan, out-low, out-high, out-width, out-bits, in-bits}
-use Rattle.fields.proofs.clock.count_of.Statement.{statement}
-use Rattle.fields.proofs.clock.count_of.Tie as tie
+use Rattle.clock.specs.Clock.{negative, termOf, signedField}
+use Rattle.clock.specs.Laws.Terms.{term-exact, range-53}
+use Rattle.clock.proofs.clock.Laws.{Scaled, narrow, no-nan, value-no-nan, out-low, out-high, out-width, out-bits, in-bits}
+use Rattle.clock.proofs.clock.count_of.Statement.{statement}
+use Rattle.clock.proofs.clock.count_of.Tie as tie
 
 add-power : tie.Need-add-power
 add-power c = search needs

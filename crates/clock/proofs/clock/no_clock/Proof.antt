@@ -1,11 +1,11 @@
--- `fields::clock::no_clock` meets its contract. Assumes nothing.
+-- `clock::clock::no_clock` meets its contract. Assumes nothing.
 use mathlib.Core.Path.{ap}
 use lib.Ieee.{ofBits}
 use borrow.Author.Needs.{needs}
 use Rattle.words.specs.declared.refusal.Answer.{Answer}
-use Rattle.fields.specs.Clock.{zeroClock}
-use Rattle.fields.proofs.clock.no_clock.Statement.{statement}
-use Rattle.fields.proofs.clock.no_clock.Tie as tie
+use Rattle.clock.specs.Clock.{zeroClock}
+use Rattle.clock.proofs.clock.no_clock.Statement.{statement}
+use Rattle.clock.proofs.clock.no_clock.Tie as tie
 
 refuse-requires : tie.Need-refuse-requires
 refuse-requires c κs = search needs

@@ -12,15 +12,15 @@ use lib.Ieee.Exact.{HasValue}
 use Rattle.words.specs.Refusal.{FIELD-2, refusedAt, doneIf, inTurn, numberOf, placeOf}
 use Rattle.words.specs.declared.refusal.Answer.{Answer}
 use Rattle.words.specs.declared.refusal.Answer.the-variants.{Done, Refused}
 use Rattle.fields.specs.Table.{twos, fieldsIn, noField, firstBit}
 use Rattle.fields.specs.Counts.{inRange}
 use Rattle.fields.specs.declared.table.Field.{Field}
 use Rattle.fields.specs.declared.table.Table.the-variants.{Subframe2}
-use Rattle.fields.specs.declared.clock.Clock.{Clock}
-use Rattle.fields.specs.declared.clock.ClockTaken.{ClockTaken}
-use Rattle.fields.specs.declared.clock.ClockCounts.{ClockCounts}
-use Rattle.fields.specs.declared.clock.Count.{Count}
-use Rattle.fields.specs.declared.clock.Count.the-variants.{Is, Not}
+use Rattle.clock.specs.declared.clock.Clock.{Clock}
+use Rattle.clock.specs.declared.clock.ClockTaken.{ClockTaken}
+use Rattle.clock.specs.declared.clock.ClockCounts.{ClockCounts}
+use Rattle.clock.specs.declared.clock.Count.{Count}
+use Rattle.clock.specs.declared.clock.Count.the-variants.{Is, Not}
 
 -- ---- one count and one floating number, in steps of 2^-k
 

@@ -1,4 +1,4 @@
--- `fields::clock::term_of` meets its contract: an integer times a power of two is exact. Assumes nothing.
+-- `clock::clock::term_of` meets its contract: an integer times a power of two is exact. Assumes nothing.
 use Prim.Native.Nat.{_^_, _<_}
 use native.Mathlib.Omega.{arith}
 use lib.IntN.{natAbs}
@@ -6,9 +6,9 @@ use lib.Signed.{natAbs-le}
 use mir.Syntax.{w64}
 use mir.ValLaws.{toZ-ofZ}
 use borrow.Author.Needs.{needs}
-use Rattle.fields.proofs.clock.Powers.{down-steps}
-use Rattle.fields.proofs.clock.term_of.Statement.{statement}
-use Rattle.fields.proofs.clock.term_of.Tie as tie
+use Rattle.clock.proofs.clock.Powers.{down-steps}
+use Rattle.clock.proofs.clock.term_of.Statement.{statement}
+use Rattle.clock.proofs.clock.term_of.Tie as tie
 
 nearest-i64-to-f64-requires : tie.Need-nearest-i64-to-f64-requires
 nearest-i64-to-f64-requires c κs = search needs

@@ -1,17 +1,17 @@
--- `fields::clock::counts_of` meets its contract. Assumes nothing.
+-- `clock::clock::counts_of` meets its contract. Assumes nothing.
 use mathlib.Core.Path.{_≡_, refl, sym, ap, _∙_}
 use lib.IntN.{ℤ}
 use mir.Syntax.{w64}
 use mir.ValLaws.{toZ-ofZ}
 use borrow.Author.Needs.{needs}
-use Rattle.fields.specs.Clock.{AF0, AF1, AF2, STEP0, STEP1, STEP2, clockField, countIn, countsOfThree, clockCounts, noClockCounts}
-use Rattle.fields.specs.Laws.ClockAnswers.{first-bits, signed-fields}
 use Rattle.fields.specs.declared.table.Field.{Field}
-use Rattle.fields.specs.declared.clock.Clock.{Clock}
-use Rattle.fields.specs.declared.clock.Count.{Count}
-use Rattle.fields.specs.declared.clock.Count.the-variants.{Is, Not}
-use Rattle.fields.proofs.clock.counts_of.Statement.{statement}
-use Rattle.fields.proofs.clock.counts_of.Tie as tie
+use Rattle.clock.specs.Clock.{AF0, AF1, AF2, STEP0, STEP1, STEP2, clockField, countIn, countsOfThree, clockCounts, noClockCounts}
+use Rattle.clock.specs.Laws.ClockAnswers.{first-bits, signed-fields}
+use Rattle.clock.specs.declared.clock.Clock.{Clock}
+use Rattle.clock.specs.declared.clock.Count.{Count}
+use Rattle.clock.specs.declared.clock.Count.the-variants.{Is, Not}
+use Rattle.clock.proofs.clock.counts_of.Statement.{statement}
+use Rattle.clock.proofs.clock.counts_of.Tie as tie
 
 -- what the three terms are taken back to
 abbrev taken0 : Clock → Count

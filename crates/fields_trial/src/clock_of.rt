@@ -1,7 +1,7 @@
-// The function `clock_of` of `fields::clock`.
-use fields::clock::Clock;
-use fields::clock::ClockTaken;
-use fields::clock::clock_of;
+// The function `clock_of` of `clock::clock`.
+use clock::clock::Clock;
+use clock::clock::ClockTaken;
+use clock::clock::clock_of;
 use show::expected;
 use show::is_done;
 use show::is_refused;

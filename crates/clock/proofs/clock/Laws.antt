@@ -13,12 +13,12 @@ use lib.Ieee.{Float, nan, inf, fin, binary64, up, down, mul, ofInt, toSigned, in
 use lib.Ieee.Exact.{HasValue}
 use lib.Ieee.Fits.{down-pos}
 use lib.Ieee.Back.{positive-back, negative-back}
 use Rattle.fields.specs.Counts.{inRange}
-use Rattle.fields.specs.Clock.{negative, termOf, countIn, signedField}
-use Rattle.fields.specs.Laws.OneValue.{same-bits}
-use Rattle.fields.specs.Laws.Terms.{term-fits, range-53, term-back, no-count}
-use Rattle.fields.specs.declared.clock.Count.the-variants.{Is, Not}
-use Rattle.fields.proofs.clock.Powers.{power, int-exact, up-steps}
+use Rattle.clock.specs.Clock.{negative, termOf, countIn, signedField}
+use Rattle.clock.specs.Laws.OneValue.{same-bits}
+use Rattle.clock.specs.Laws.Terms.{term-fits, range-53, term-back, no-count}
+use Rattle.clock.specs.declared.clock.Count.the-variants.{Is, Not}
+use Rattle.clock.proofs.clock.Powers.{power, int-exact, up-steps}
 
 -- ---- signed fields
 

@@ -1,4 +1,4 @@
--- `fields::clock::clock_of` meets its contract. Assumes nothing.
+-- `clock::clock::clock_of` meets its contract. Assumes nothing.
 use mathlib.Core.Path.{_≡_, sym, ap, _∙_}
 use mathlib.Core.Bool.{true}
 use Prim.Native.Nat.{ℕ, _^_, _<_}
@@ -12,14 +12,14 @@ use borrow.Author.Needs.{needs}
 use borrow.Author.Tests.{not-true, not-false}
 use Rattle.words.specs.Refusal.{FIELD-2, refusedAt}
 use Rattle.words.specs.declared.refusal.Answer.{Answer}
 use Rattle.fields.specs.Counts.{inRange}
-use Rattle.fields.specs.Clock.{AF0, AF1, AF2, signedField, clockField, isCountOf, clockTerms, clockBy, clockAnswer, clockTaken, noClock}
-use Rattle.fields.specs.Laws.ClockAnswers.{signed-fields, narrow-fields, answer0, answer1, answer2, answer-done}
 use Rattle.fields.specs.Laws.Counts.{range-most}
 use Rattle.fields.specs.declared.table.Field.{Field}
-use Rattle.fields.specs.declared.clock.ClockTaken.{ClockTaken}
-use Rattle.fields.proofs.clock.clock_of.Statement.{statement}
-use Rattle.fields.proofs.clock.clock_of.Tie as tie
+use Rattle.clock.specs.Clock.{AF0, AF1, AF2, signedField, clockField, isCountOf, clockTerms, clockBy, clockAnswer, clockTaken, noClock}
+use Rattle.clock.specs.Laws.ClockAnswers.{signed-fields, narrow-fields, answer0, answer1, answer2, answer-done}
+use Rattle.clock.specs.declared.clock.ClockTaken.{ClockTaken}
+use Rattle.clock.proofs.clock.clock_of.Statement.{statement}
+use Rattle.clock.proofs.clock.clock_of.Tie as tie
 
 -- a count in the range of a field that is not too wide
 below-52 : (f : Field) (z : ℤ) → f .most < 2 ^ 52 → inRange f z ≡ true → mag z < 2 ^ 52

@@ -1,0 +1,4 @@
+-- The laws that the proofs and theorems of `clock` rest on.
+pub mod OneValue
+pub mod Terms
+pub mod ClockAnswers
