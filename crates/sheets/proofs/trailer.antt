@@ -1,0 +1,2 @@
+-- The proofs of `trailer`, and the laws that they rest on.
+mod Laws

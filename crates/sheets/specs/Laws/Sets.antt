@@ -1,0 +1,16 @@
+-- Bytes written one after another.
+-- Assumes nothing.
+use mathlib.Core.Path.{_≡_, _∙_}
+use mathlib.Core.List.{List, [], _∷_, _++_}
+use Prim.Native.Nat.{ℕ, suc, _+_}
+use native.Mathlib.Nat.{add-zero}
+use native.Mathlib.Omega.{arith}
+use lib.ListN.{length, set}
+use lib.Seq.{sets}
+
+-- a text of two parts, written whole or part by part
+pub sets-append : (u v l : List ℕ) (i : ℕ) → sets l i (u ++ v) ≡ sets (sets l i u) (i + length u) v
+sets-append [] v l i = rw add-zero
+sets-append (x ∷ u) v l i =
+    let e : suc i + length u ≡ i + suc (length u) = omega arith in
+    sets-append u v (set l i x) (suc i) ∙ rw e

@@ -1,0 +1,9 @@
+// Message sheets: reading them at the end of lent bytes, writing them, and walking over the sheets of a file.
+mod lines;
+mod list;
+mod number;
+pub mod sheet;
+mod text;
+pub mod trailer;
+pub mod walk;
+pub mod write;
