@@ -1,19 +1,9 @@
 #include "checks.h"
 
 #include "bits.h"
+#include "must.h"
 
-#include <stdio.h>
-#include <stdlib.h>
 #include <string.h>
-
-static void must(int holds, const char *what)
-{
-    if (holds)
-        return;
-    fflush(stdout);
-    fprintf(stderr, "second: this does not hold of the reading behind the last line: %s\n", what);
-    exit(1);
-}
 
 static int is_done(struct answer answer)
 {

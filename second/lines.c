@@ -9,7 +9,7 @@
 static void print_counts(const int64_t *counts)
 {
     for (int i = 0; i < COUNTS; i++)
-        printf(" %c%019" PRId64, counts[i] < 0 ? '-' : '+', counts[i] < 0 ? -counts[i] : counts[i]);
+        printf(" %" PRId64, counts[i]);
 }
 
 static void print_page(const unsigned char *page)

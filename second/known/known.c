@@ -2,6 +2,7 @@
 #include "bits.h"
 #include "crc.h"
 #include "frame.h"
+#include "sheet.h"
 
 #include <stdio.h>
 #include <string.h>
@@ -149,6 +150,41 @@ static void try_building(const struct codes *codes)
     expect(is_answer(build_with(codes, 5, 2016), 6, 39), "toe 2016");
 }
 
+static struct answer read_string(const char *sheet)
+{
+    return read_sheet((const unsigned char *)sheet, (int)strlen(sheet)).answer;
+}
+
+/* The sheet with every number 0, as a string. */
+static void make_zero_sheet(char *sheet, int room)
+{
+    int64_t zeros[NUMBERS] = {0};
+    struct written written = write_sheet(zeros, (unsigned char *)sheet, room);
+    expect(is_answer(written.answer, 0, 0) && written.size == 243, "the sheet of zeros has 232 bytes and its trailer");
+    sheet[written.size] = 0;
+}
+
+static void try_zero_sheet(void)
+{
+    char sheet[300];
+    make_zero_sheet(sheet, 243);
+    expect(strncmp(sheet, "toi=0\nwn=0\nitow=0\n", 18) == 0, "the sheet of zeros is in the list's order");
+    expect(strcmp(&sheet[232], "back 00232\n") == 0, "the sheet of zeros ends with back 00232");
+    expect(is_answer(read_string(sheet), 0, 0), "the sheet of zeros is read");
+    char *tgd = strstr(sheet, "tgd=");
+    memcpy(tgd, "tdg=", 4);
+    expect(is_answer(read_string(sheet), 12, 206), "tgd spelt tdg");
+    memcpy(tgd, "tgd=", 4);
+    strcpy(&sheet[232], "toi=0\nback 00238\n");
+    expect(is_answer(read_string(sheet), 13, 232), "the toi line a second time");
+}
+
+static void try_small_sheets(void)
+{
+    expect(is_answer(read_string(""), 10, 0), "an empty buffer as a sheet");
+    expect(is_answer(read_string("back 00000\n"), 15, 1), "back 00000 alone");
+}
+
 int main(int count, char **words)
 {
     static struct codes codes;
@@ -160,6 +196,8 @@ int main(int count, char **words)
     try_order();
     try_layouts();
     try_building(&codes);
+    try_zero_sheet();
+    try_small_sheets();
     printf("second program: %d of %d known results agree\n", tried - differing, tried);
     return differing == 0 ? 0 : 1;
 }

@@ -1,8 +1,9 @@
 // The contents and the symbols of frames, as the second program writes them.
 ghost use Prim.Native.Nat.{_≤_};
+use super::input::hex_digit;
 use super::input::next_character;
-use super::input::read_number;
 use super::input::read_page;
+use super::input::read_rest;
 use words::bits::put_number;
 
 // The most that a count can be.
@@ -17,35 +18,37 @@ pub(crate) fn read_contents(counts: &mut [i64; 33], page: &mut [u8; 250]) -> boo
     are_counts && are_bits
 }
 
-// Up to the first that is no count.
-fn read_counts(counts: &mut [i64; 33]) -> bool {
+// Reads as many counts as are lent, with the space behind each, up to the first that is none, and says whether there is none.
+pub(crate) fn read_counts(counts: &mut [i64]) -> bool {
     let mut k: usize = 0;
-    while k < 33 {
-        let sign = next_character();
-        let number = read_number(19, b' ');
-        if !is_sign(sign) {
-            return false;
-        }
+    while k < counts.len() {
+        let first = next_character();
+        let number = read_magnitude(first);
         if number > MOST {
             return false;
         }
-        counts[k] = signed(sign, number);
+        counts[k] = signed(first, number);
         k += 1;
     }
     true
 }
 
-fn is_sign(character: u8) -> bool {
-    character == b'+' || character == b'-'
+// A count's first character is a minus or its first digit.
+fn read_magnitude(first: u8) -> usize {
+    if first == b'-' {
+        read_rest(next_character(), b' ')
+    } else {
+        read_rest(first, b' ')
+    }
 }
 
-fn signed(sign: u8, number: usize) -> i64
+fn signed(first: u8, number: usize) -> i64
     requires { ⌜ number ≤ 9223372036854775807 ⌝ }
 {
     if number == 0 {
         return 0;
     }
-    if sign == b'-' {
+    if first == b'-' {
         below_zero(number - 1)
     } else {
         number as i64
@@ -59,9 +62,9 @@ fn below_zero(n: usize) -> i64
     -1 - n as i64
 }
 
-pub(crate) fn copy_counts(from: &[i64; 33], into: &mut [i64; 33]) {
+pub(crate) fn copy_counts(from: &[i64], into: &mut [i64]) {
     let mut k: usize = 0;
-    while k < 33 {
+    while k < from.len() && k < into.len() {
         into[k] = from[k];
         k += 1;
     }
@@ -82,7 +85,7 @@ pub(crate) fn read_symbols(frame: &mut [u8; 1800]) -> bool {
 fn unpack(text: &[u8; 450], frame: &mut [u8; 1800]) -> bool {
     let mut i: usize = 0;
     while i < 450 {
-        let four = four_symbols(text[i]);
+        let four = hex_digit(text[i]);
         if four > 15 {
             return false;
         }
@@ -90,17 +93,6 @@ fn unpack(text: &[u8; 450], frame: &mut [u8; 1800]) -> bool {
         i += 1;
     }
     true
-}
-
-// The value of a digit of sixteen; more than any has where it is none.
-fn four_symbols(character: u8) -> u64 {
-    if character >= b'0' && character <= b'9' {
-        return (character - b'0') as u64;
-    }
-    if character >= b'a' && character <= b'f' {
-        return (character - b'a') as u64 + 10;
-    }
-    u64::MAX
 }
 
 // Whether every byte is this one.

@@ -9,6 +9,9 @@ pub(crate) enum Kind {
     Built,
     Written,
     Read,
+    SheetWritten,
+    SheetRead,
+    Walked,
     NoCase,
     End,
 }
@@ -53,6 +56,19 @@ fn kind_of_frame(word: &[u8; 3]) -> Kind {
     }
     if check::same(word, b"FR ") {
         return Kind::Read;
+    }
+    kind_of_sheet(word)
+}
+
+fn kind_of_sheet(word: &[u8; 3]) -> Kind {
+    if check::same(word, b"SW ") {
+        return Kind::SheetWritten;
+    }
+    if check::same(word, b"SR ") {
+        return Kind::SheetRead;
+    }
+    if check::same(word, b"SK ") {
+        return Kind::Walked;
     }
     Kind::NoCase
 }
@@ -111,6 +127,17 @@ fn digit(character: u8) -> u8 {
     }
 }
 
+// The value of a digit of sixteen; more than any has where it is none.
+pub(crate) fn hex_digit(character: u8) -> u64 {
+    if character >= b'0' && character <= b'9' {
+        return (character - b'0') as u64;
+    }
+    if character >= b'a' && character <= b'f' {
+        return (character - b'a') as u64 + 10;
+    }
+    u64::MAX
+}
+
 // The number and one digit more behind it.
 fn with_digit(number: usize, value: u8) -> usize {
     if number > TAKES_A_DIGIT {
@@ -132,4 +159,18 @@ pub(crate) fn read_number(digits: u8, end: u8) -> usize {
         left -= 1;
     }
     if is_next(end) { number } else { NO_NUMBER }
+}
+
+// Reads the rest of a number of at most 20 digits, whose first is given, and the character that ends it. Where they are not so, it is
+// more than any number of theirs.
+pub(crate) fn read_rest(first: u8, end: u8) -> usize {
+    let mut number: usize = 0;
+    let mut character = first;
+    let mut left: u8 = 20;
+    while left > 0 && character != end {
+        number = with_digit(number, digit(character));
+        character = next_character();
+        left -= 1;
+    }
+    if character == end { number } else { NO_NUMBER }
 }

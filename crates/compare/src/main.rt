@@ -6,8 +6,11 @@ mod contents;
 mod input;
 mod parity_cases;
 mod read_cases;
+mod sheet_cases;
 mod tally;
+mod texts;
 mod told;
+mod walk_cases;
 
 fn main() {
     let tally = cases::run_all();

@@ -11,6 +11,9 @@ pub(crate) struct Tally {
     built: u64,
     written: u64,
     read: u64,
+    sheets_written: u64,
+    sheets_read: u64,
+    walked: u64,
 }
 
 pub(crate) fn nothing_yet() -> Tally {
@@ -23,6 +26,9 @@ pub(crate) fn nothing_yet() -> Tally {
         built: 0,
         written: 0,
         read: 0,
+        sheets_written: 0,
+        sheets_read: 0,
+        walked: 0,
     }
 }
 
@@ -61,6 +67,15 @@ fn with_agreed(tally: Tally, kind: Kind) -> Tally {
         Kind::Read => {
             next.read = one_more(tally.read);
         }
+        Kind::SheetWritten => {
+            next.sheets_written = one_more(tally.sheets_written);
+        }
+        Kind::SheetRead => {
+            next.sheets_read = one_more(tally.sheets_read);
+        }
+        Kind::Walked => {
+            next.walked = one_more(tally.walked);
+        }
         _ => {}
     }
     next
@@ -83,6 +98,7 @@ pub(crate) fn print(tally: Tally) {
     print_unmet(b"subframe 2: ", tally.unmet_two);
     print_unmet(b"subframe 3: ", tally.unmet_three);
     print_frames(tally.built, tally.written, tally.read);
+    print_sheets(tally.sheets_written, tally.sheets_read, tally.walked);
 }
 
 fn print_filled(subframe: &[u8], count: u64) {
@@ -112,6 +128,24 @@ fn print_frames(built: u64, written: u64, read: u64) {
         b"",
         read,
         b" frames read as the second program reads them, whole and part by part\n",
+    );
+}
+
+fn print_sheets(written: u64, read: u64, walked: u64) {
+    print_count(
+        b"",
+        written,
+        b" writings of sheets answered as the second program answers them\n",
+    );
+    print_count(
+        b"",
+        read,
+        b" sheets read as the second program reads them\n",
+    );
+    print_count(
+        b"",
+        walked,
+        b" walks over sheets with the second program's steps\n",
     );
 }
 

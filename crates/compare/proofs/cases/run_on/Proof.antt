@@ -5,10 +5,12 @@ use Rattle.compare.proofs.cases.run_on.Statement.{statement}
 use Rattle.compare.proofs.cases.run_on.Tie as tie
 
 abbrev Inv-loop : tie.InvT-loop
-Inv-loop counts₀ page₀ frame₀ tally₀ kind₀ turns₀ counts page frame tally kind turns = Unit {0}
+Inv-loop counts₀ page₀ frame₀ numbers₀ sheet₀ tally₀ kind₀ turns₀ counts page frame numbers sheet tally kind turns =
+    Unit {0}
 
 abbrev μ-loop : tie.MeasureT-loop
-μ-loop counts₀ page₀ frame₀ tally₀ kind₀ turns₀ counts page frame tally kind turns = turns
+μ-loop counts₀ page₀ frame₀ numbers₀ sheet₀ tally₀ kind₀ turns₀ counts page frame numbers sheet tally kind turns =
+    turns
 
 nothing-yet-requires : tie.Need-nothing-yet-requires Inv-loop μ-loop
 nothing-yet-requires c κs = search needs

@@ -13,11 +13,11 @@ abbrev μ-loop : tie.MeasureT-loop
 loop-holds : tie.Need-loop-holds Inv-loop μ-loop
 loop-holds c = search needs
 
-element-copy-out-four-symbols : tie.Need-element-copy-out-four-symbols Inv-loop μ-loop
-element-copy-out-four-symbols c = search needs
+element-copy-out-hex-digit : tie.Need-element-copy-out-hex-digit Inv-loop μ-loop
+element-copy-out-hex-digit c = search needs
 
-four-symbols-requires : tie.Need-four-symbols-requires Inv-loop μ-loop
-four-symbols-requires c κs = search needs
+hex-digit-requires : tie.Need-hex-digit-requires Inv-loop μ-loop
+hex-digit-requires c κs = search needs
 
 returns : tie.Need-returns Inv-loop μ-loop
 returns c = search needs
@@ -47,8 +47,8 @@ unpack-spec =
     Inv-loop
     μ-loop
     loop-holds
-    element-copy-out-four-symbols
-    four-symbols-requires
+    element-copy-out-hex-digit
+    hex-digit-requires
     returns
     mul-put-number
     put-number-requires

@@ -1,0 +1,126 @@
+// The cases of sheets that are written, which set the base sheet, and of sheets that are read.
+use super::contents::copy_counts;
+use super::contents::read_counts;
+use super::input::read_number;
+use super::texts::first_bytes;
+use super::texts::read_text;
+use super::texts::text_bytes;
+use super::told::Told;
+use super::told::is_told;
+use super::told::nothing_refused;
+use super::told::read_told;
+use super::told::tells_done;
+use sheets::sheet::before_sheet;
+use sheets::sheet::read_sheet;
+use sheets::trailer::sheet_start;
+use sheets::write::write_sheet;
+use show::is_done;
+use show::same_counts;
+use words::bits::copy;
+
+// What bytes hold that are lent to be written in.
+const GARBAGE: u8 = 7;
+
+// ---- writing
+
+pub(crate) fn sheet_written_agrees(
+    base_numbers: &mut [i64; 34],
+    base_sheet: &mut [u8; 5000],
+) -> bool {
+    let mut numbers = [0i64; 34];
+    let mut expected = [GARBAGE; 5000];
+    let room = read_number(4, b' ');
+    let are_numbers = read_counts(&mut numbers);
+    let told = read_told(b' ');
+    let size = read_number(4, b' ');
+    let count = read_text(base_sheet, &mut expected, b'\n');
+    set_base_sheet(told, &numbers, &expected, base_numbers, base_sheet);
+    are_numbers && count == size && writing_agrees(&numbers, room, told, size, &expected)
+}
+
+// A sheet that is told to be written becomes the base sheet.
+fn set_base_sheet(
+    told: Told,
+    numbers: &[i64; 34],
+    sheet: &[u8; 5000],
+    base_numbers: &mut [i64; 34],
+    base_sheet: &mut [u8; 5000],
+) {
+    if tells_done(told) {
+        copy_counts(numbers, base_numbers);
+        copy(sheet, base_sheet);
+    }
+}
+
+// Behind the sheet, or everywhere where it is refused, what was lent has to stay as it was.
+fn writing_agrees(
+    numbers: &[i64; 34],
+    room: usize,
+    told: Told,
+    size: usize,
+    expected: &[u8; 5000],
+) -> bool {
+    let mut out = [GARBAGE; 5000];
+    first_written_agree(numbers, &mut out, room, told, size) && check::same(&out, expected)
+}
+
+// Into the first `room` bytes.
+fn first_written_agree(
+    numbers: &[i64; 34],
+    out: &mut [u8],
+    room: usize,
+    told: Told,
+    size: usize,
+) -> bool {
+    if room > out.len() {
+        return false;
+    }
+    let written = write_sheet(numbers, &mut out[..room]);
+    let answer = written.answer;
+    is_told(answer, told) && written.size == size
+}
+
+// ---- reading
+
+pub(crate) fn sheet_read_agrees(base_numbers: &[i64; 34], base_sheet: &[u8; 5000]) -> bool {
+    let mut text = [0u8; 5000];
+    let count = read_text(base_sheet, &mut text, b' ');
+    let told = read_told(b' ');
+    let start = read_number(4, b'\n');
+    count <= 5000 && reading_agrees(text_bytes(&text, count), told, start, base_numbers)
+}
+
+fn reading_agrees(bytes: &[u8], told: Told, start: usize, base_numbers: &[i64; 34]) -> bool {
+    if sheet_start(bytes) != start {
+        return false;
+    }
+    if tells_done(told) {
+        return sheet_agrees(bytes, told, start, base_numbers) && again_agrees(base_numbers);
+    }
+    let zeros = [0i64; 34];
+    sheet_agrees(bytes, told, 0, &zeros)
+}
+
+fn sheet_agrees(bytes: &[u8], told: Told, before: usize, expected: &[i64; 34]) -> bool {
+    let sheet = read_sheet(bytes);
+    let answer = sheet.answer;
+    let numbers = sheet.numbers;
+    is_told(answer, told)
+        && sheet.before == before
+        && same_counts(&numbers, expected)
+        && check::same(before_sheet(bytes), first_bytes(bytes, before))
+}
+
+// The numbers written, and read again.
+fn again_agrees(numbers: &[i64; 34]) -> bool {
+    let mut sheet = [GARBAGE; 800];
+    let written = write_sheet(numbers, &mut sheet);
+    let answer = written.answer;
+    is_done(answer)
+        && sheet_agrees(
+            first_bytes(&sheet, written.size),
+            nothing_refused(),
+            0,
+            numbers,
+        )
+}
