@@ -19,14 +19,14 @@
  *       frame that is not refused holds both, with TOI and CORRECTED.
  *
  *   SW ROOM NUMBERS ANSWER SIZE TEXT
- *       Writing a sheet into ROOM bytes. TEXT is the sheet, with no parts of another, and SIZE its length, nothing and 0 where it is
- *       refused; all other bytes stay. The sheet, unless it is refused, becomes the base sheet, and NUMBERS the base sheet's numbers.
+ *       Writing a sheet into ROOM bytes. TEXT is the sheet, with no parts of another, and SIZE its length; nothing and 0 where it
+ *       is refused. All other bytes stay. The sheet, unless it is refused, becomes the base sheet, and NUMBERS its numbers.
  *   SR TEXT ANSWER START
- *       Reading the sheet at the end of TEXT. START is the index of its first byte, as the trailer tells, or TEXT's length where it is
- *       refused 10. A sheet that is not refused holds the base sheet's numbers, and the bytes before START are handed back.
+ *       Reading the sheet at the end of TEXT. START is the index of its first byte, as the trailer tells, or TEXT's length where it
+ *       is refused 10. A sheet that is not refused holds the base sheet's numbers, and the bytes before START are handed back.
  *   SK TEXT PLACE N STEP ...
  *       Walking over TEXT from PLACE on, N steps, each from the place where the one before it goes on. STEP is a digit, 1 where the
- *       walk is finished and 0 else; NUMBERS, zeros where no sheet was read; ANSWER; and the place where the walk goes on, 4 digits.
+ *       walk is finished and 0 else; NUMBERS, zeros where no sheet was read; ANSWER; and the place where it goes on, 4 digits.
  *
  *   TOI        in FB 5 digits, in FR 3
  *   COUNTS     33 counts in decimal with a space between them, in the order of subframe 2
@@ -38,8 +38,8 @@
  *   N          4 digits; in FR then so many times PLACE, 4 digits, from 0, rising, and VALUE, 3 digits, 0 to 255
  *   CORRECTED  2 digits
  *   NUMBERS    toi's number, a space, and COUNTS
- *   TEXT       the bytes, at most 5000: byte 10 as |, a space as _, any other from ! to ~ as itself, but \, |, _, @ and all others as
- *              \ and two hexadecimal digits. @FROM,COUNT; is COUNT bytes of the base sheet, from FROM on, from 0, 4 digits each
+ *   TEXT       the bytes, at most 5000: byte 10 as |, a space as _, any other from ! to ~ as itself, but \, |, _, @ and all others
+ *              as \ and two hexadecimal digits. @FROM,COUNT; is COUNT bytes of the base sheet, from FROM on, from 0, 4 digits each
  *   ROOM, SIZE, START and the PLACE of a walk  4 digits
  *
  * A single space stands between the parts of a line, and so on both sides of an empty TEXT.

@@ -20,8 +20,8 @@ void print_sheet_reading(const struct sheet_base *base, const struct text *text)
 /* The same of a text that is meant to be refused so. */
 void print_sheet_refused(const struct sheet_base *base, const struct text *text, int number, int place);
 
-/* SK. Walks over the text from a place on, and takes one step more than it needs. The walk is meant to read so many sheets and to be
-   refused with this number then, or, where the number is 0, to be finished. */
+/* SK. Walks over the text from a place on, and takes one step more than it needs. The walk is meant to read so many sheets and then
+   to be refused with this number or, where the number is 0, to be finished. */
 void print_walk(const struct sheet_base *base, const struct text *text, int place, int sheets, int number);
 
 #endif

@@ -36,7 +36,7 @@ fn of_writing() {
     write::rooms();
     write::numbers_refused();
     write::extreme();
-    write::ends();
+    write::read_again();
 }
 
 fn of_walking() {

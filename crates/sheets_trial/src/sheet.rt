@@ -58,6 +58,7 @@ pub(crate) fn no_trailer() {
 }
 
 pub(crate) fn known() {
+    let longer = toi_again();
     let mut sheet = zero_sheet();
     zeros_behind(b"read_sheet of the sheet of zeros is done", &sheet, b"");
     sheet[207] = b'd';
@@ -69,29 +70,26 @@ pub(crate) fn known() {
         206,
     );
     not_read(
+        b"  with the toi line again refused 13 at 232",
+        &longer,
+        13,
+        232,
+    );
+    not_read(
         b"read_sheet of back 00000 is refused 15 at 1",
         b"back 00000\n",
         15,
         1,
     );
-    toi_again();
 }
 
-fn toi_again() {
+// The sheet of zeros with the toi line a second time.
+fn toi_again() -> [u8; 249] {
     let numbers = [0i64; 34];
     let mut sheet = [0u8; 249];
     write_sheet(&numbers, &mut sheet);
     copy(b"toi=0\nback 00238\n", &mut sheet[232..249]);
-    not_read_249(
-        b"read_sheet of the sheet of zeros with toi again is refused 13 at 232",
-        &sheet,
-        13,
-        232,
-    );
-}
-
-fn not_read_249(text: &[u8], sheet: &[u8; 249], number: u8, place: usize) {
-    not_read(text, sheet, number, place);
+    sheet
 }
 
 // The sheet of zeros twice.

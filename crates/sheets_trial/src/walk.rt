@@ -90,5 +90,5 @@ pub(crate) fn past_end() {
         0,
     );
     stays(b"  from the most of all too", &bytes, usize::MAX, 1, 0);
-    stays(b"  over garbage too", b"back 00000\n", 12, 1, 0);
+    stays(b"  over back 00000 from 12 too", b"back 00000\n", 12, 1, 0);
 }

@@ -122,7 +122,7 @@ pub(crate) fn extreme() {
 }
 
 // Written, and read again.
-fn again(text: &[u8], numbers: &[i64; 34]) {
+fn is_read_again(text: &[u8], numbers: &[i64; 34]) {
     let mut out = [7u8; 244];
     let mut bytes = [0u8; 243];
     let written = write_sheet(numbers, &mut out);
@@ -135,13 +135,13 @@ fn again(text: &[u8], numbers: &[i64; 34]) {
 }
 
 // One digit each, so that the sheet has 243 bytes.
-pub(crate) fn ends() {
+pub(crate) fn read_again() {
     let mut numbers = [0i64; 34];
     numbers[4] = 1;
     numbers[7] = 9;
     numbers[26] = 7;
     numbers[33] = 1;
-    again(
+    is_read_again(
         b"write_sheet of health 1, da 9, uraoc2 7 and isf 1 is read again",
         &numbers,
     );
