@@ -17,7 +17,8 @@ use Rattle.fields.specs.Laws.Counts.{range-most, range-head, range-tail, more-i
 use Rattle.fields.specs.Pages.{PAGE-BITS, HEAD-BITS, numberIn}
 use Rattle.fields.specs.declared.table.Table.the-variants.{Subframe2, Page1}
 use Rattle.frames.specs.Frame.{Contents, GoodContents}
-use Rattle.sheets.specs.List.{sheetRows, sheetFields, numbersOf, CarriedBy}
+use Rattle.sheets.specs.List.{sheetRows, sheetFields}
+use Rattle.sheets.specs.Contents.{numbersOf, CarriedBy}
 use Rattle.sheets.specs.Laws.Lengths.{toiField}
 
 -- The numbers of good contents are good numbers of a sheet.

@@ -9,6 +9,7 @@ pub mod Lines
 pub mod Sheet
 pub mod Write
 pub mod Walk
+pub mod Contents
 pub mod Carried
 pub mod Due
 pub mod Refused

@@ -1,15 +1,12 @@
 -- The list of a sheet (document 01, "The sheet"): toi, and the 33 names of subframe 2, each with its field.
 -- Assumes nothing.
-use mathlib.Core.Path.{_≡_}
 use mathlib.Core.Bool.{cond}
 use mathlib.Core.List.{List, [], _∷_, map}
 use Prim.Native.Nat.{ℕ, suc}
-use lib.IntN.{ℤ, pos}
 use Rattle.words.specs.Time.{LAST-TOI}
 use Rattle.fields.specs.Table.{NamedField, atMost, rowsIn}
 use Rattle.fields.specs.declared.table.Field.{Field}
 use Rattle.fields.specs.declared.table.Table.the-variants.{Subframe2}
-use Rattle.frames.specs.Frame.{Contents, GoodContents}
 use Rattle.sheets.specs.Text.{bytesIn, sameBytes}
 
 -- toi stands before the fields of subframe 2: 9 bits, 0 to 399 (document 01, "The frame")
@@ -32,14 +29,3 @@ NUMBERS = 34
 unfoldable pub positionIn : List ℕ → List (List ℕ) → ℕ
 positionIn name [] = 0
 positionIn name (y ∷ names) = cond (sameBytes name y) 0 (suc (positionIn name names))
-
--- the numbers of a frame's contents, as a sheet has them: the time, then the counts
-abbrev pub numbersOf : Contents → List ℤ
-numbersOf c = pos (c .toi) ∷ c .counts
-
--- good contents of a frame that have these numbers and this page
-pub record CarriedBy (zs : List ℤ) (page : List ℕ) : Type 0 where
-  pub contents : Contents
-  pub numbers : numbersOf contents ≡ zs
-  pub page-is : contents .page ≡ page
-  pub good : GoodContents contents

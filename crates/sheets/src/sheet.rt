@@ -103,7 +103,7 @@ pub fn read_sheet(bytes: &[u8]) -> Sheet
 
 // The part of the bytes before the sheet at their end; empty, where it is refused.
 pub fn before_sheet<'a>(bytes: &'a [u8]) -> &'a [u8]
-    ensures { λ r. ⌜ now r ≡ beforeSheet (now (bytes .entry)) ⌝ }
+    ensures { λ r. ⌜ (r .ptr ≡ bytes .entry .ptr) × (now r ≡ beforeSheet (now (bytes .entry))) ⌝ }
 {
     let sheet = read_sheet(bytes);
     let before = sheet.before;

@@ -49,17 +49,17 @@ given-is name (line ∷ lines) e = go (sameBytes name (nameIn line)) refl e (giv
         let g = later f in
         record { index = suc (g .index); inside = omega (arith, g .inside); named = g .named }
 
-given-at : (name : List ℕ) (lines : List (List ℕ)) (i : ℕ) → i < length lines → nameIn (getD lines i []) ≡ name → isGiven name lines ≡ true
+given-line : (name : List ℕ) (lines : List (List ℕ)) (i : ℕ) → i < length lines → nameIn (getD lines i []) ≡ name → isGiven name lines ≡ true
 unfolding isGiven
-given-at name [] i h e = absurd (omega arith)
-given-at name (line ∷ lines) zero h e =
+given-line name [] i h e = absurd (omega arith)
+given-line name (line ∷ lines) zero h e =
     let s : sameBytes name (nameIn line) ≡ true = ap (sameBytes name) e ∙ same-self name in
     ap (λ (t : Bool). t || isGiven name lines) s
-given-at name (line ∷ lines) (suc i) h e =
-    ap (λ (t : Bool). sameBytes name (nameIn line) || t) (given-at name lines i (omega arith) e) ∙ or-true (sameBytes name (nameIn line))
+given-line name (line ∷ lines) (suc i) h e =
+    ap (λ (t : Bool). sameBytes name (nameIn line) || t) (given-line name lines i (omega arith) e) ∙ or-true (sameBytes name (nameIn line))
 
 pub given-when : (name : List ℕ) (lines : List (List ℕ)) → GivenBy name lines → isGiven name lines ≡ true
-given-when name lines g = given-at name lines (g .index) (g .inside) (g .named)
+given-when name lines g = given-line name lines (g .index) (g .inside) (g .named)
 
 pub not-given : (name : List ℕ) (lines : List (List ℕ)) → (GivenBy name lines → ⊥) → isGiven name lines ≡ false
 not-given name lines h = go (isGiven name lines) refl

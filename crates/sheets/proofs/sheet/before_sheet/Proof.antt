@@ -1,6 +1,6 @@
 -- `sheets::sheet::before_sheet` meets its contract. Assumes nothing.
 use borrow.Author.Needs.{needs}
-use mathlib.Core.Path.{ap}
+use mathlib.Core.Path.{refl, ap}
 use native.Mathlib.Omega.{arith}
 use lib.ListN.{take, length-take}
 use Rattle.sheets.specs.Laws.Sheet.{before-within}
@@ -17,7 +17,7 @@ slice-aggregate-result c =
     simp length-take (omega (arith, e, before-within (c .before .before .before .args .bytes .now)))
 
 returns : tie.Need-returns
-returns c = ap (λ (sheet : Sheet). take (sheet .before) (c .before .before .before .args .bytes .now)) (c .before .read-sheet .ensures)
+returns c = (refl, ap (λ (sheet : Sheet). take (sheet .before) (c .before .before .before .args .bytes .now)) (c .before .read-sheet .ensures))
 
 pub before-sheet-spec : {M : Type 1} → statement M
 before-sheet-spec = tie.close (tie.spec read-sheet-requires slice-aggregate-result returns)
