@@ -24,11 +24,13 @@ sheetText zs = withTrailer (lineTexts sheetNames zs)
 abbrev pub numbersAnswer : List ℤ → Answer
 numbersAnswer zs = inTurn (doneIf (inRange (getD sheetFields 0 noField) (getD zs 0 (pos 0))) TIME 0) (countsAnswer (drop 1 zs))
 
--- the answer: 1, 3, 6, and 16 where the lent bytes are fewer than the sheet's
+-- 16 where the lent bytes are fewer than a text's
+abbrev pub roomAnswer : List ℕ → List ℕ → Answer
+roomAnswer text out = doneIf (leb (length text) (length out)) ROOM 0
+
+-- the answer: 1, 3, 6, 16
 abbrev pub writeAnswer : List ℤ → List ℕ → Answer
-writeAnswer zs out =
-    inTurn (doneIf (eqb (length zs) NUMBERS) LENGTH 0)
-    (inTurn (numbersAnswer zs) (doneIf (leb (length (sheetText zs)) (length out)) ROOM 0))
+writeAnswer zs out = inTurn (doneIf (eqb (length zs) NUMBERS) LENGTH 0) (inTurn (numbersAnswer zs) (roomAnswer (sheetText zs) out))
 
 -- the answer and the sheet's length, 0 on a refusal
 abbrev pub writtenBy : Answer → ℕ → Written
@@ -39,6 +41,17 @@ writtenBy (Refused r) n = record { answer = Refused r; size = 0 }
 unfoldable pub sheetWritten : List ℤ → List ℕ → Written
 sheetWritten zs out = writtenBy (writeAnswer zs out) (length (sheetText zs))
 
--- the lent bytes then: the sheet, and behind it what stood there; on a refusal as they were
+-- a text from the first lent byte on, and behind it what stood there
+abbrev pub putFirst : List ℕ → List ℕ → List ℕ
+putFirst text out = text ++ drop (length text) out
+
+-- the lent bytes then: the sheet put first; on a refusal as they were
 unfoldable pub writtenBytes : List ℤ → List ℕ → List ℕ
-writtenBytes zs out = leftBy (writeAnswer zs out) (sheetText zs ++ drop (length (sheetText zs)) out) out
+writtenBytes zs out = leftBy (writeAnswer zs out) (putFirst (sheetText zs) out) out
+
+-- what writing any text gives, and the lent bytes then
+unfoldable pub textWritten : List ℕ → List ℕ → Written
+textWritten text out = writtenBy (roomAnswer text out) (length text)
+
+unfoldable pub textBytes : List ℕ → List ℕ → List ℕ
+textBytes text out = leftBy (roomAnswer text out) (putFirst text out) out

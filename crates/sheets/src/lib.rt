@@ -3,7 +3,7 @@ mod lines;
 mod list;
 mod number;
 pub mod sheet;
-mod text;
+pub mod text;
 pub mod trailer;
 pub mod walk;
 pub mod write;

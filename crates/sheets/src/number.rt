@@ -125,7 +125,7 @@ pub(crate) fn read_number(field: Field, text: &[u8]) -> Number
 // ---- writing
 
 // Writes the digits of a number from `at` on, and gives the place behind them.
-fn put_decimal(out: &mut [u8], at: usize, number: u64) -> usize
+pub(crate) fn put_decimal(out: &mut [u8], at: usize, number: u64) -> usize
     requires { ⌜ at + length (decimal number) ≤ length (now out) ⌝ }
     ensures { λ r. ⌜ (r ≡ at + length (decimal number)) × (now (out .exit) ≡ sets (now (out .entry)) at (decimal number)) ⌝ }
 {

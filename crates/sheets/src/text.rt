@@ -7,7 +7,7 @@ ghost use Rattle.sheets.specs.Text.{indexOf, sameBytes, partsEnded};
 ghost use Rattle.sheets.specs.List.{positionIn};
 
 // How many bytes stand before the first byte `b`: all, where there is none.
-pub(crate) fn find(bytes: &[u8], b: u8) -> usize
+pub fn find(bytes: &[u8], b: u8) -> usize
     ensures { λ r. ⌜ r ≡ indexOf b (now (bytes .entry)) ⌝ }
 {
     let mut i: usize = 0;

@@ -8,11 +8,13 @@ ghost use Rattle.words.specs.Refusal.{refusedAt};
 ghost use Rattle.words.specs.declared.refusal.Answer.the-variants.{Done};
 ghost use Rattle.sheets.specs.Text.{LINE-END, EQUALS, partsEnded, endedBy};
 ghost use Rattle.sheets.specs.List.{NUMBERS};
+ghost use Rattle.sheets.specs.Number.{decimal};
 ghost use Rattle.sheets.specs.Sheet.{lineText, lineTexts};
-ghost use Rattle.sheets.specs.Write.{sheetText, numbersAnswer, writtenBy, sheetWritten, writtenBytes};
+ghost use Rattle.sheets.specs.Write.{sheetText, numbersAnswer, writtenBy, sheetWritten, writtenBytes, textWritten, textBytes};
 use super::list::LISTED;
 use super::list::NAMES;
 use super::list::listed_field;
+use super::number::put_decimal;
 use super::number::put_number;
 use super::text::find;
 use super::text::put_bytes;
@@ -39,6 +41,33 @@ fn not_written(number: u8, place: usize) -> Written
         size: 0,
     }
 }
+
+// ---- any text
+
+// Writes a text from the first lent byte on; the bytes behind it stay. Refused 16 at 0 where the text has more bytes than are lent.
+pub fn write_text(text: &[u8], out: &mut [u8]) -> Written
+    ensures { λ r. ⌜ (r ≡ textWritten (now (text .entry)) (now (out .entry))) × (now (out .exit) ≡ textBytes (now (text .entry)) (now (out .entry))) ⌝ }
+{
+    if out.len() < text.len() {
+        return not_written(ROOM, 0);
+    }
+    let size = put_bytes(out, 0, text);
+    Written {
+        answer: Answer::Done,
+        size,
+    }
+}
+
+// Writes the digits of a number in the same way.
+pub fn write_decimal(number: u64, out: &mut [u8]) -> Written
+    ensures { λ r. ⌜ (r ≡ textWritten (decimal number) (now (out .entry))) × (now (out .exit) ≡ textBytes (decimal number) (now (out .entry))) ⌝ }
+{
+    let mut digits = [0u8; 20];
+    let size = put_decimal(&mut digits, 0, number);
+    write_text(&digits[..size], out)
+}
+
+// ---- a sheet
 
 // Writes a line with its end from `at` on, and gives the place behind it.
 fn put_line(out: &mut [u8], at: usize, name: &[u8], number: i64) -> usize
@@ -102,14 +131,7 @@ fn write_good(numbers: &[i64], out: &mut [u8]) -> Written
 {
     let mut sheet = [0u8; 800];
     let size = put_sheet(&mut sheet, numbers);
-    if out.len() < size {
-        return not_written(ROOM, 0);
-    }
-    put_bytes(out, 0, &sheet[..size]);
-    Written {
-        answer: Answer::Done,
-        size,
-    }
+    write_text(&sheet[..size], out)
 }
 
 // Writes the sheet of 34 numbers, toi's first, from the first lent byte on; the bytes behind it stay. Refused 1 at 0 for another number of

@@ -11,7 +11,7 @@ use native.Mathlib.Omega.{arith}
 use lib.Dec.{leb}
 use lib.IntN.{ℤ, pos}
 use lib.ListN.{length, getD, take, drop, set, length-append, length-drop, drop-of-length-le}
-use lib.Seq.{sets, sets-eq, drop-cons, take-all, take-at}
+use lib.Seq.{sets, drop-cons, take-all, take-at}
 use borrow.Author.Tests.{eq-eqb, ne-eqb, le-leb, lt-leb}
 use Rattle.words.specs.Refusal.{LENGTH, TIME, ROOM, refusedAt, doneIf, inTurn, leftBy}
 use Rattle.words.specs.declared.refusal.Answer.{Answer}
@@ -25,15 +25,12 @@ use Rattle.sheets.specs.List.{NUMBERS, sheetNames, sheetFields}
 use Rattle.sheets.specs.Number.{numeral}
 use Rattle.sheets.specs.Trailer.{trailerText}
 use Rattle.sheets.specs.Sheet.{lineText, lineTexts}
-use Rattle.sheets.specs.Write.{sheetText, numbersAnswer, writeAnswer, writtenBy, sheetWritten, writtenBytes}
-use Rattle.sheets.specs.Laws.Sets.{sets-append}
+use Rattle.sheets.specs.Write.{sheetText, numbersAnswer, roomAnswer, writeAnswer, writtenBy, putFirst, sheetWritten, writtenBytes, textWritten, textBytes}
+use Rattle.sheets.specs.Laws.Sets.{sets-append, sets-front}
 use Rattle.sheets.specs.Laws.Text.{index-le, parts-none, parts-from}
 use Rattle.sheets.specs.declared.write.Written.{Written}
 
 -- ---- bytes put from the first place on
-
-sets-front : (vs l : List ℕ) → length vs ≤ length l → sets l 0 vs ≡ vs ++ drop (length vs) l
-sets-front vs l h = sets-eq vs l 0 (omega arith) ∙ ap (λ (n : ℕ). vs ++ drop n l) (zero-add (length vs))
 
 -- they are the first bytes then
 pub front-is : (vs l o : List ℕ) (n : ℕ) → n ≡ length vs → o ≡ sets l 0 vs → length vs ≤ length l → take n o ≡ vs
@@ -147,52 +144,60 @@ module _ (zs : List ℤ) where
       (eq-eqb (length (drop 1 zs)) COUNTS-2 (omega (arith, length-drop 1 zs)))
       ∙ by-time true e
 
+-- ---- what writing a text gives
+
+module _ (text out : List ℕ) where
+  by-room : (t : Bool) (r : Written) (left : List ℕ) → leb (length text) (length out) ≡ t → r ≡ writtenBy (doneIf t ROOM 0) (length text)
+      → left ≡ leftBy (doneIf t ROOM 0) (putFirst text out) out → (r ≡ textWritten text out) × (left ≡ textBytes text out)
+  unfolding textWritten textBytes
+  by-room t r left e f g = (
+    f ∙ ap (λ (x : Bool). writtenBy (doneIf x ROOM 0) (length text)) (sym e),
+    g ∙ ap (λ (x : Bool). leftBy (doneIf x ROOM 0) (putFirst text out) out) (sym e),
+  )
+
+  -- fewer bytes lent than the text has
+  pub no-room : (r : Written) → length out < length text → r ≡ writtenBy (refusedAt ROOM 0) 0
+      → (r ≡ textWritten text out) × (out ≡ textBytes text out)
+  no-room r h e = by-room false r out (lt-leb (length text) (length out) h) e refl
+
+  -- enough bytes
+  pub room : (left : List ℕ) (size : ℕ) → size ≡ 0 + length text → length text ≤ length out → left ≡ sets out 0 text
+      → (record { answer = Done; size = size } ≡ textWritten text out) × (left ≡ textBytes text out)
+  room left size s h e =
+      by-room true (record { answer = Done; size = size }) left (le-leb (length text) (length out) h)
+      (ap (λ (n : ℕ). writtenBy Done n) (s ∙ zero-add (length text))) (e ∙ sets-front text out h)
+
 -- ---- what writing a sheet gives
 
 module _ (zs : List ℤ) (out : List ℕ) where
   by-answer : (a : Answer) (r : Written) (left : List ℕ) → writeAnswer zs out ≡ a → r ≡ writtenBy a (length (sheetText zs))
-      → left ≡ leftBy a (sheetText zs ++ drop (length (sheetText zs)) out) out → (r ≡ sheetWritten zs out) × (left ≡ writtenBytes zs out)
+      → left ≡ leftBy a (putFirst (sheetText zs) out) out → (r ≡ sheetWritten zs out) × (left ≡ writtenBytes zs out)
   unfolding sheetWritten writtenBytes
   by-answer a r left e f g = (
     f ∙ ap (λ (x : Answer). writtenBy x (length (sheetText zs))) (sym e),
-    g ∙ ap (λ (x : Answer). leftBy x (sheetText zs ++ drop (length (sheetText zs)) out) out) (sym e),
+    g ∙ ap (λ (x : Answer). leftBy x (putFirst (sheetText zs) out) out) (sym e),
   )
-
-  abbrev roomAnswer : Answer
-  roomAnswer = doneIf (leb (length (sheetText zs)) (length out)) ROOM 0
 
   -- another number of numbers
   pub wrong-length : (r : Written) → (length zs ≡ NUMBERS → ⊥) → r ≡ writtenBy (refusedAt LENGTH 0) 0
       → (r ≡ sheetWritten zs out) × (out ≡ writtenBytes zs out)
   wrong-length r n e =
       by-answer (refusedAt LENGTH 0) r out
-      (ap (λ (t : Bool). inTurn (doneIf t LENGTH 0) (inTurn (numbersAnswer zs) roomAnswer)) (ne-eqb (length zs) NUMBERS n))
+      (ap (λ (t : Bool). inTurn (doneIf t LENGTH 0) (inTurn (numbersAnswer zs) (roomAnswer (sheetText zs) out))) (ne-eqb (length zs) NUMBERS n))
       e refl
 
   module _ (n : length zs ≡ NUMBERS) where
-    answer-is : (a : Answer) → numbersAnswer zs ≡ a → writeAnswer zs out ≡ inTurn a roomAnswer
+    answer-is : (a : Answer) → numbersAnswer zs ≡ a → writeAnswer zs out ≡ inTurn a (roomAnswer (sheetText zs) out)
     answer-is a e =
-        ap₂ (λ (t : Bool) (x : Answer). inTurn (doneIf t LENGTH 0) (inTurn x roomAnswer)) (eq-eqb (length zs) NUMBERS n) e
+        ap₂ (λ (t : Bool) (x : Answer). inTurn (doneIf t LENGTH 0) (inTurn x (roomAnswer (sheetText zs) out))) (eq-eqb (length zs) NUMBERS n) e
 
     -- a number out of its range
     pub not-good : (r : Written) (number place : ℕ) → numbersAnswer zs ≡ refusedAt number place → r ≡ writtenBy (refusedAt number place) 0
         → (r ≡ sheetWritten zs out) × (out ≡ writtenBytes zs out)
     not-good r number place e f = by-answer (refusedAt number place) r out (answer-is (refusedAt number place) e) f refl
 
-    module _ (good : numbersAnswer zs ≡ Done) where
-      room-is : (t : Bool) → leb (length (sheetText zs)) (length out) ≡ t → writeAnswer zs out ≡ doneIf t ROOM 0
-      room-is t e = answer-is Done good ∙ ap (λ (x : Bool). doneIf x ROOM 0) e
-
-      -- fewer bytes lent than the sheet has
-      pub no-room : (r : Written) (size : ℕ) → size ≡ length (sheetText zs) → length out < size → r ≡ writtenBy (refusedAt ROOM 0) 0
-          → (r ≡ sheetWritten zs out) × (out ≡ writtenBytes zs out)
-      no-room r size s h e =
-          by-answer (refusedAt ROOM 0) r out (room-is false (lt-leb (length (sheetText zs)) (length out) (omega arith))) e refl
-
-      -- enough bytes
-      pub room : (left : List ℕ) (size : ℕ) → size ≡ length (sheetText zs) → size ≤ length out → left ≡ sets out 0 (sheetText zs)
-          → (record { answer = Done; size = size } ≡ sheetWritten zs out) × (left ≡ writtenBytes zs out)
-      room left size s h e =
-          by-answer Done (record { answer = Done; size = size }) left
-          (room-is true (le-leb (length (sheetText zs)) (length out) (omega arith)))
-          (ap (λ (n : ℕ). writtenBy Done n) s) (e ∙ sets-front (sheetText zs) out (omega arith))
+    -- the sheet of good numbers is written as a text
+    pub good-written : (r : Written) (left : List ℕ) → numbersAnswer zs ≡ Done → r ≡ textWritten (sheetText zs) out → left ≡ textBytes (sheetText zs) out
+        → (r ≡ sheetWritten zs out) × (left ≡ writtenBytes zs out)
+    unfolding textWritten textBytes
+    good-written r left good e f = by-answer (roomAnswer (sheetText zs) out) r left (answer-is Done good) e f

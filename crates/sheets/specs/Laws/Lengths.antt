@@ -77,6 +77,11 @@ unfolding decimalBy
 digits-few zero n k h = omega arith
 digits-few (suc most) n k h = digits-step (ltb n 10) n k (decimalBy most (n / 10)) refl h (digits-few most (n / 10))
 
+-- a number of 64 bits has at most 20 digits
+pub decimal-short : (n : ℕ) → n < 2 ^ 64 → length (decimal n) ≤ 20
+unfolding decimal
+decimal-short n h = digits-few (suc n) n 19 (omega arith)
+
 numeral-short : (z : ℤ) → mag z < 99999999999 → length (numeral z) ≤ 12
 unfolding numeral decimal
 numeral-short (pos n) h = omega (arith, digits-few (suc n) n 10 (omega arith))
