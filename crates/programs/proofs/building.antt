@@ -1,0 +1,2 @@
+-- The proofs of `building`, and the laws that they rest on.
+pub mod Laws

@@ -1,0 +1,3 @@
+-- The proofs of `reading`, and the laws that they rest on.
+mod Contents
+mod Laws
