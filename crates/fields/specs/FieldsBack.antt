@@ -8,15 +8,15 @@ use Prim.Native.Nat.{ℕ}
 use native.Mathlib.Omega.{arith}
 use lib.Dec.{eqb}
 use lib.IntN.{ℤ, pos}
-use lib.ListN.{length, getD}
+use lib.ListN.{length}
 use lib.Seq.{take-all}
 use borrow.Author.Tests.{ne-eqb}
 use Rattle.words.specs.Bits.{IsBits, bitsOf}
 use Rattle.words.specs.Refusal.{LENGTH, FIELD-2, refusedAt, doneIf, inTurn, leftIf}
 use Rattle.words.specs.Unchanged.{Refuses}
 use Rattle.words.specs.declared.refusal.Answer.the-variants.{Done}
-use Rattle.fields.specs.Table.{subframe2Rows, fieldsIn, noField, bitCount, firstBit}
-use Rattle.fields.specs.Counts.{countsIn, bitsOfCounts, inRange, AllInRange, firstOut, FirstOutAt}
+use Rattle.fields.specs.Table.{subframe2Rows, fieldsIn, bitCount, firstBit}
+use Rattle.fields.specs.Counts.{countsIn, bitsOfCounts, AllInRange, firstOut, FirstOutAt}
 use Rattle.fields.specs.Subframe2.{fields2, bits2, firstOut2, fieldsAnswer, fieldsBy, fieldsRead, rightLengths2, countsAnswer, fieldsWritten, fieldsBytes}
 use Rattle.fields.specs.Laws.Table.{usable-tables}
 use Rattle.fields.specs.Laws.Answers.{judged-right, refused-at-place, counts-judged, counts-right, counts-wrong}
@@ -100,27 +100,7 @@ fields-unchanged zs out h = go (rightLengths2 zs out) (eqb (firstOut 0 (fieldsIn
     go true false h = refl
     go false none h = refl
 
--- ---- ranges and places
-
--- itow is 0 to 83.
-pub itow-range : (inRange (getD (fieldsIn Subframe2) 1 noField) (pos 83) ≡ true) × (inRange (getD (fieldsIn Subframe2) 1 noField) (pos 84) ≡ false)
-unfolding fieldsIn subframe2Rows
-itow-range = (refl, refl)
-
--- toe is 0 to 2015.
-pub toe-range : (inRange (getD (fieldsIn Subframe2) 5 noField) (pos 2015) ≡ true) × (inRange (getD (fieldsIn Subframe2) 5 noField) (pos 2016) ≡ false)
-unfolding fieldsIn subframe2Rows
-toe-range = (refl, refl)
-
--- itow's first bit is 14.
-pub itow-place : firstBit Subframe2 1 ≡ 14
-unfolding fieldsIn subframe2Rows bitCount
-itow-place = refl
-
--- toe's first bit is 39.
-pub toe-place : firstBit Subframe2 5 ≡ 39
-unfolding fieldsIn subframe2Rows bitCount
-toe-place = refl
+-- ---- places
 
 -- The reserved bits behind the 33 fields begin at 567.
 pub reserved-place : firstBit Subframe2 33 ≡ 567

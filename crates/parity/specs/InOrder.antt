@@ -27,11 +27,6 @@ leaves-by-columns r c h g = omega arith
 pub rows-filled : (SYMBOLS-2 + SYMBOLS-3 ≡ SYMBOLS) × (ROWS * COLUMNS ≡ SYMBOLS)
 rows-filled = (refl, refl)
 
--- The known places.
-pub known-places : (leavesAt 0 ≡ 0) × (leavesAt 1 ≡ 38) × (leavesAt 45 ≡ 1710) × (leavesAt 46 ≡ 1) × (leavesAt 1199 ≡ 140)
-    × (leavesAt 1200 ≡ 178) × (leavesAt 1747 ≡ 1747)
-known-places = (refl, refl, refl, refl, refl, refl, refl)
-
 -- Each of the symbols leaves at a place among theirs, and stood at one.
 pub leaves-inside : (k : ℕ) → k < SYMBOLS → leavesAt k < SYMBOLS
 leaves-inside k h = omega arith
