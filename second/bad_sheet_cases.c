@@ -69,7 +69,7 @@ static void print_several(const struct sheet_base *base)
     add_sheet(&text, &draft);
     if (random_below(8) == 0)
         text.bytes[text.count - 1 - random_below(TRAILER_BYTES)] = '?';
-    if (read_sheet(text.bytes, text.count).answer.number != 0)
+    if (!is_done(read_sheet(text.bytes, text.count).answer))
         print_sheet_reading(base, &text);
 }
 

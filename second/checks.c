@@ -5,16 +5,6 @@
 
 #include <string.h>
 
-static int is_done(struct answer answer)
-{
-    return answer.number == 0;
-}
-
-static int same_answer(struct answer one, struct answer other)
-{
-    return one.number == other.number && one.place == other.place;
-}
-
 static int same_counts(const struct contents *one, const struct contents *other)
 {
     return memcmp(one->counts, other->counts, sizeof one->counts) == 0;

@@ -17,13 +17,6 @@ void prepare_codes(struct codes *codes, int count, char **words)
     prepare_parity(&codes->three, words[1], '3');
 }
 
-static struct answer refused(int number, int place)
-{
-    return (struct answer){number, place};
-}
-
-static const struct answer done = {0, 0};
-
 /* Building. */
 
 void make_block_2(const struct codes *codes, const unsigned char *bits, unsigned char *block)
@@ -57,7 +50,7 @@ static struct answer judge_contents(const struct contents *contents)
 struct answer build(const struct codes *codes, const struct contents *contents, unsigned char *frame)
 {
     struct answer answer = judge_contents(contents);
-    if (answer.number != 0)
+    if (!is_done(answer))
         return answer;
     struct parts parts;
     unsigned char bits[SUBFRAME_2_BITS] = {0};
@@ -132,7 +125,7 @@ struct answer read_time(const unsigned char *frame, int length, struct contents 
 {
     struct parts parts;
     struct answer answer = judge_symbols(frame, length);
-    if (answer.number != 0)
+    if (!is_done(answer))
         return answer;
     from_frame(frame, &parts);
     return judge_time(&parts, contents);
@@ -142,7 +135,7 @@ struct answer read_subframe_2(const struct codes *codes, const unsigned char *fr
 {
     struct parts parts;
     struct answer answer = judge_symbols(frame, length);
-    if (answer.number != 0)
+    if (!is_done(answer))
         return answer;
     from_frame(frame, &parts);
     return judge_block_2(codes, &parts, contents);
@@ -152,7 +145,7 @@ struct answer read_subframe_3(const struct codes *codes, const unsigned char *fr
 {
     struct parts parts;
     struct answer answer = judge_symbols(frame, length);
-    if (answer.number != 0)
+    if (!is_done(answer))
         return answer;
     from_frame(frame, &parts);
     return judge_block_3(codes, &parts, contents);
@@ -163,15 +156,15 @@ struct answer read_frame(const struct codes *codes, const unsigned char *frame, 
     struct parts parts;
     struct contents found = *contents;
     struct answer answer = judge_symbols(frame, length);
-    if (answer.number != 0)
+    if (!is_done(answer))
         return answer;
     from_frame(frame, &parts);
     answer = judge_time(&parts, &found);
-    if (answer.number == 0)
+    if (is_done(answer))
         answer = judge_block_2(codes, &parts, &found);
-    if (answer.number == 0)
+    if (is_done(answer))
         answer = judge_block_3(codes, &parts, &found);
-    if (answer.number == 0)
+    if (is_done(answer))
         *contents = found;
     return answer;
 }

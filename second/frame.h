@@ -2,16 +2,11 @@
 #ifndef FRAME_H
 #define FRAME_H
 
+#include "answer.h"
 #include "fields.h"
 #include "order.h"
 #include "page.h"
 #include "parity.h"
-
-/* A refusal's number and place; number 0 where nothing is refused. */
-struct answer {
-    int number;
-    int place;
-};
 
 /* The equations of both subframes. */
 struct codes {

@@ -18,7 +18,7 @@ static void print_good(struct sheet_base *base, const int64_t *numbers)
 {
     struct text text;
     struct sheet_draft draft;
-    print_sheet_writing(base, numbers, MOST_TEXT - random_below(4000));
+    print_sheet_writing(base, numbers, MOST_ROOM - random_below(4000));
     print_sheet_reading(base, &base->text);
     start_behind(&text, base);
     add_text(&text, &base->text);

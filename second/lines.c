@@ -1,48 +1,22 @@
 #include "lines.h"
 
 #include "checks.h"
+#include "line_parts.h"
 
-#include <inttypes.h>
 #include <stdio.h>
 #include <string.h>
-
-static void print_counts(const int64_t *counts)
-{
-    for (int i = 0; i < COUNTS; i++)
-        printf(" %" PRId64, counts[i]);
-}
-
-static void print_page(const unsigned char *page)
-{
-    putchar(' ');
-    for (int i = 0; i < PAGE_BITS; i++)
-        putchar('0' + page[i]);
-}
-
-/* Four symbols a digit, the first the most significant. */
-static void print_frame(const unsigned char *frame)
-{
-    putchar(' ');
-    for (int i = 0; i < FRAME_SYMBOLS; i += 4)
-        printf("%x", 8u * frame[i] + 4u * frame[i + 1] + 2u * frame[i + 2] + frame[i + 3]);
-    putchar('\n');
-}
-
-static void print_answer(struct answer answer)
-{
-    printf(" %02d %04d", answer.number, answer.place);
-}
 
 void print_building(struct base *base, const struct contents *contents)
 {
     unsigned char frame[FRAME_SYMBOLS] = {0};
     struct answer answer = build(base->codes, contents, frame);
     printf("FB %05d", contents->toi);
-    print_counts(contents->counts);
-    print_page(contents->page);
+    print_counts(contents->counts, COUNTS);
+    print_bits(contents->page, PAGE_BITS);
     print_answer(answer);
     print_frame(frame);
-    if (answer.number != 0)
+    putchar('\n');
+    if (!is_done(answer))
         return;
     base->is_built = 1;
     base->contents = *contents;
@@ -57,20 +31,10 @@ void print_written(struct base *base, const struct parts *parts)
     memcpy(base->contents.page, parts->three, PAGE_BITS);
     to_frame(parts, base->frame);
     printf("FW");
-    print_counts(base->contents.counts);
-    print_page(base->contents.page);
+    print_counts(base->contents.counts, COUNTS);
+    print_bits(base->contents.page, PAGE_BITS);
     print_frame(base->frame);
-}
-
-static void print_changes(const struct base *base, const unsigned char *symbols)
-{
-    int count = 0;
-    for (int i = 0; i < FRAME_SYMBOLS; i++)
-        count += symbols[i] != base->frame[i];
-    printf(" %04d", count);
-    for (int i = 0; i < FRAME_SYMBOLS; i++)
-        if (symbols[i] != base->frame[i])
-            printf(" %04d %03d", i, symbols[i]);
+    putchar('\n');
 }
 
 void print_reading(const struct base *base, const unsigned char *symbols, int length)
@@ -84,7 +48,7 @@ void print_reading(const struct base *base, const unsigned char *symbols, int le
     reading.three = read_subframe_3(base->codes, frame, length, &reading.alone);
     check_reading(base, frame, length, &reading);
     printf("FR %04d", length);
-    print_changes(base, symbols);
+    print_changes(base->frame, symbols, FRAME_SYMBOLS);
     print_answer(reading.read);
     print_answer(reading.time);
     printf(" %03d %02d", reading.alone.toi, reading.alone.corrected);

@@ -7,13 +7,6 @@
 
 enum { MOST_SHEET = 1024 };
 
-static struct answer refused(int number, int place)
-{
-    return (struct answer){number, place};
-}
-
-static const struct answer done = {0, 0};
-
 /* The list. */
 
 const char *listed_name(int k)
@@ -130,7 +123,7 @@ struct sheet read_sheet(const unsigned char *bytes, int count)
         return sheet;
     }
     sheet.answer = judge_lines(&bytes[start], count - TRAILER_BYTES - start, &given);
-    if (sheet.answer.number == 0) {
+    if (is_done(sheet.answer)) {
         memcpy(sheet.numbers, given.numbers, sizeof sheet.numbers);
         sheet.before = start;
     }
@@ -160,7 +153,7 @@ struct written write_sheet(const int64_t *numbers, unsigned char *out, int room)
 {
     char text[MOST_SHEET];
     struct written written = {judge_numbers(numbers), 0};
-    if (written.answer.number != 0)
+    if (!is_done(written.answer))
         return written;
     int size = print_sheet(numbers, text);
     if (size > room) {
@@ -188,7 +181,7 @@ struct step walk_back(const unsigned char *bytes, int count, int place)
     struct sheet sheet = read_sheet(bytes, place);
     step.answer = sheet.answer;
     memcpy(step.numbers, sheet.numbers, sizeof step.numbers);
-    if (sheet.answer.number == 0)
+    if (is_done(sheet.answer))
         step.place = sheet.before;
     return step;
 }

@@ -29,7 +29,7 @@ void new_sheet_base(struct sheet_base *base)
 {
     int64_t numbers[NUMBERS];
     random_numbers(numbers);
-    print_sheet_writing(base, numbers, MOST_TEXT);
+    print_sheet_writing(base, numbers, MOST_ROOM);
 }
 
 void start_behind(struct text *text, const struct sheet_base *base)

@@ -84,6 +84,24 @@ void remove_byte(struct line *line, int at)
     memmove(&line->bytes[at], &line->bytes[at + 1], (size_t)(line->count - at));
 }
 
+struct answer spoil_line(struct sheet_draft *draft, int k, int number)
+{
+    struct line line = draft->lines[k];
+    int listed = place_in_list(line.bytes, equals_at(&line));
+    int place = line_place(draft, number == 13 ? draft->count : k);
+    if (number == 11)
+        insert_empty_line(draft, k);
+    if (number == 12)
+        insert_line(draft, k, "helth", "1");
+    if (number == 13)
+        insert_line(draft, draft->count, listed_name(k), "x");
+    if (number == 14)
+        insert_byte(&draft->lines[k], equals_at(&line) + 1, '+');
+    if (number == 15)
+        remove_line(draft, k);
+    return refused(number, number == 15 ? listed + 1 : place);
+}
+
 int equals_at(const struct line *line)
 {
     const unsigned char *equals = memchr(line->bytes, '=', (size_t)line->count);

@@ -35,6 +35,10 @@ void remove_line(struct sheet_draft *draft, int k);
 void insert_byte(struct line *line, int at, unsigned char byte);
 void remove_byte(struct line *line, int at);
 
+/* Changes a good sheet so that it is refused with this number, 11 to 15, and says how: an empty line or an unknown name before the line
+   `k`, a name a second time behind the last line, its number spoilt, or the line taken out. */
+struct answer spoil_line(struct sheet_draft *draft, int k, int number);
+
 /* Where a line's first `=` stands, or its length. */
 int equals_at(const struct line *line);
 

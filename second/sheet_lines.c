@@ -1,100 +1,24 @@
 #include "sheet_lines.h"
 
+#include "line_parts.h"
 #include "must.h"
 
-#include <inttypes.h>
 #include <stdio.h>
 #include <string.h>
-
-/* Parts of lines. */
-
-/* A part of the base is printed as 11 characters, so shorter ones are printed as they are. */
-enum { LEAST_PART = 12 };
-
-/* How many bytes are the same in both. */
-static int count_same(const unsigned char *one, int one_count, const unsigned char *other, int other_count)
-{
-    int i = 0;
-    while (i < one_count && i < other_count && one[i] == other[i])
-        i++;
-    return i;
-}
-
-/* The longest part of the base that the bytes begin with: where it stands, and how long it is. */
-static int longest_part(const struct text *base, const unsigned char *bytes, int count, int *longest)
-{
-    int from = 0;
-    *longest = 0;
-    for (int i = 0; i < base->count; i++) {
-        int same = count_same(&base->bytes[i], base->count - i, bytes, count);
-        if (same > *longest) {
-            from = i;
-            *longest = same;
-        }
-    }
-    return from;
-}
-
-static void print_byte(unsigned char byte)
-{
-    if (byte == '\n')
-        putchar('|');
-    else if (byte == ' ')
-        putchar('_');
-    else if (byte < '!' || byte > '~' || strchr("\\|_@", byte) != NULL)
-        printf("\\%02x", byte);
-    else
-        putchar(byte);
-}
-
-static void print_bytes(const unsigned char *bytes, int count)
-{
-    putchar(' ');
-    for (int i = 0; i < count; i++)
-        print_byte(bytes[i]);
-}
-
-/* The same, by parts of the base. */
-static void print_text(const struct sheet_base *base, const struct text *text)
-{
-    putchar(' ');
-    for (int i = 0; i < text->count;) {
-        int longest;
-        int from = longest_part(&base->text, &text->bytes[i], text->count - i, &longest);
-        if (longest < LEAST_PART) {
-            print_byte(text->bytes[i]);
-            i++;
-        } else {
-            printf("@%04d,%04d;", from, longest);
-            i += longest;
-        }
-    }
-}
-
-static void print_numbers(const int64_t *numbers)
-{
-    for (int k = 0; k < NUMBERS; k++)
-        printf(" %" PRId64, numbers[k]);
-}
-
-static void print_answer(struct answer answer)
-{
-    printf(" %02d %04d", answer.number, answer.place);
-}
 
 /* Writing. */
 
 void print_sheet_writing(struct sheet_base *base, const int64_t *numbers, int room)
 {
-    unsigned char out[MOST_TEXT];
+    unsigned char out[MOST_ROOM];
     struct written written = write_sheet(numbers, out, room);
     printf("SW %04d", room);
-    print_numbers(numbers);
+    print_counts(numbers, NUMBERS);
     print_answer(written.answer);
     printf(" %04d", written.size);
     print_bytes(out, written.size);
     putchar('\n');
-    if (written.answer.number != 0)
+    if (!is_done(written.answer))
         return;
     memcpy(base->numbers, numbers, sizeof base->numbers);
     base->text.count = 0;
@@ -117,14 +41,14 @@ static int are_zeros(const int64_t *numbers)
 /* The base has the numbers of every good sheet, and is itself what they are written as. */
 static void check_sheet(const struct sheet_base *base, const struct sheet *sheet, int start)
 {
-    if (sheet->answer.number != 0) {
+    if (!is_done(sheet->answer)) {
         must(are_zeros(sheet->numbers) && sheet->before == 0, "a sheet that is refused has zeros beside it");
         return;
     }
     must(same_numbers(sheet->numbers, base->numbers), "the numbers read are the base's");
     must(sheet->before == start, "all bytes before the sheet are handed back");
     struct sheet again = read_sheet(base->text.bytes, base->text.count);
-    must(again.answer.number == 0 && same_numbers(again.numbers, sheet->numbers), "what is read, written and read is the same");
+    must(is_done(again.answer) && same_numbers(again.numbers, sheet->numbers), "what is read, written and read is the same");
 }
 
 void print_sheet_reading(const struct sheet_base *base, const struct text *text)
@@ -133,7 +57,7 @@ void print_sheet_reading(const struct sheet_base *base, const struct text *text)
     int start = sheet_start(text->bytes, text->count);
     check_sheet(base, &sheet, start);
     printf("SR");
-    print_text(base, text);
+    print_text(&base->text, text);
     print_answer(sheet.answer);
     printf(" %04d\n", start);
 }
@@ -141,7 +65,7 @@ void print_sheet_reading(const struct sheet_base *base, const struct text *text)
 void print_sheet_refused(const struct sheet_base *base, const struct text *text, int number, int place)
 {
     struct answer answer = read_sheet(text->bytes, text->count).answer;
-    must(answer.number == number && answer.place == place, "the sheet is refused as it is meant to be");
+    must(same_answer(answer, refused(number, place)), "the sheet is refused as it is meant to be");
     print_sheet_reading(base, text);
 }
 
@@ -152,7 +76,7 @@ enum { MOST_STEPS = 10 };
 /* A sheet is read, and the walk goes on. */
 static int goes_on(const struct step *step)
 {
-    return !step->is_finished && step->answer.number == 0;
+    return !step->is_finished && is_done(step->answer);
 }
 
 /* Takes so many steps, each from the place where the one before it goes on. */
@@ -182,11 +106,11 @@ void print_walk(const struct sheet_base *base, const struct text *text, int plac
     take_steps(text, place, steps, sheets + 2);
     check_steps(steps, sheets, number);
     printf("SK");
-    print_text(base, text);
+    print_text(&base->text, text);
     printf(" %04d %04d", place, sheets + 2);
     for (int i = 0; i < sheets + 2; i++) {
         printf(" %d", steps[i].is_finished);
-        print_numbers(steps[i].numbers);
+        print_counts(steps[i].numbers, NUMBERS);
         print_answer(steps[i].answer);
         printf(" %04d", steps[i].place);
     }

@@ -5,6 +5,9 @@
 #include "sheet.h"
 #include "text.h"
 
+/* The most bytes that a sheet is written into. */
+enum { MOST_ROOM = 5000 };
+
 /* The sheet whose parts texts are told by, and whose numbers good sheets have. */
 struct sheet_base {
     int64_t numbers[NUMBERS];

@@ -20,17 +20,17 @@ static void print_times(struct sheet_base *base)
     static const int64_t times[] = {400,   401,    511,  512, -1, -2, -400, (int64_t)1 << 32, -((int64_t)1 << 32),
                                     65536, -65536, 1024, 656, INT64_MAX, -INT64_MAX};
     for (size_t i = 0; i < sizeof times / sizeof times[0]; i++)
-        print_with(base, 0, times[i], MOST_TEXT);
+        print_with(base, 0, times[i], MOST_ROOM);
 }
 
 static void print_counts(struct sheet_base *base)
 {
     for (int k = 1; k < NUMBERS; k++) {
-        print_with(base, k, least_number(k) - 1, MOST_TEXT);
-        print_with(base, k, largest_number(k) + 1, MOST_TEXT);
+        print_with(base, k, least_number(k) - 1, MOST_ROOM);
+        print_with(base, k, largest_number(k) + 1, MOST_ROOM);
     }
-    print_with(base, 11, INT64_MAX, MOST_TEXT);
-    print_with(base, 12, -INT64_MAX, MOST_TEXT);
+    print_with(base, 11, INT64_MAX, MOST_ROOM);
+    print_with(base, 12, -INT64_MAX, MOST_ROOM);
 }
 
 static void print_several(struct sheet_base *base)
@@ -42,7 +42,7 @@ static void print_several(struct sheet_base *base)
         memcpy(numbers, base->numbers, sizeof numbers);
         numbers[first] = largest_number(first) + 1;
         numbers[later] = least_number(later) - 1;
-        print_sheet_writing(base, numbers, i % 3 == 0 ? 0 : MOST_TEXT);
+        print_sheet_writing(base, numbers, i % 3 == 0 ? 0 : MOST_ROOM);
     }
 }
 
@@ -51,7 +51,7 @@ static void print_rooms(struct sheet_base *base)
 {
     int64_t numbers[NUMBERS];
     random_numbers(numbers);
-    print_sheet_writing(base, numbers, MOST_TEXT);
+    print_sheet_writing(base, numbers, MOST_ROOM);
     int size = base->text.count;
     const int rooms[] = {0, 1, size - TRAILER_BYTES, size - 1, size, size + 1, size + random_below(100)};
     for (size_t i = 0; i < sizeof rooms / sizeof rooms[0]; i++)

@@ -23,6 +23,15 @@ void add_text(struct text *text, const struct text *other)
     add_bytes(text, other->bytes, other->count);
 }
 
+void add_repeated(struct text *text, const struct text *other, int count)
+{
+    for (int left = count; left > 0;) {
+        int part = left < other->count ? left : other->count;
+        add_bytes(text, other->bytes, part);
+        left -= part;
+    }
+}
+
 void add_trailer(struct text *text, int counted)
 {
     char trailer[32];

@@ -76,20 +76,10 @@ static void print_near(const struct sheet_base *base)
     }
 }
 
-/* The base again and again, up to so many bytes. */
-static void add_repeated(struct text *text, const struct sheet_base *base, int count)
-{
-    for (int left = count; left > 0;) {
-        int part = left < base->text.count ? left : base->text.count;
-        add_bytes(text, base->text.bytes, part);
-        left -= part;
-    }
-}
-
 static void print_counted(const struct sheet_base *base, int before, int counted, int number, int place)
 {
     struct text text = {0};
-    add_repeated(&text, base, before);
+    add_repeated(&text, &base->text, before);
     add_trailer(&text, counted);
     print_sheet_refused(base, &text, number, place);
 }

@@ -47,16 +47,7 @@ static void add_bad(const struct sheet_base *base, struct file *file, int number
     struct sheet_draft draft;
     int k = random_below(NUMBERS);
     draft_sheet(base, &draft);
-    if (number == 11)
-        insert_empty_line(&draft, k);
-    if (number == 12)
-        insert_line(&draft, k, "helth", "1");
-    if (number == 13)
-        insert_line(&draft, NUMBERS, listed_name(k), "x");
-    if (number == 14)
-        insert_byte(&draft.lines[k], equals_at(&draft.lines[k]) + 1, '+');
-    if (number == 15)
-        remove_line(&draft, k);
+    spoil_line(&draft, k, number);
     add_sheet(&file->text, &draft);
     end_sheet(file);
 }
@@ -129,7 +120,7 @@ static void print_empty(const struct sheet_base *base)
 void print_walk_cases(struct sheet_base *base)
 {
     int64_t zeros[NUMBERS] = {0};
-    print_sheet_writing(base, zeros, MOST_TEXT);
+    print_sheet_writing(base, zeros, MOST_ROOM);
     print_empty(base);
     for (int sheets = 1; sheets <= MOST_SHEETS; sheets++)
         for (int i = 0; i < 3; i++)

@@ -2,6 +2,7 @@
 
 #include "bits.h"
 #include "damage.h"
+#include "program_lines.h"
 #include "random.h"
 #include "random_contents.h"
 
@@ -47,6 +48,7 @@ static void print_parts(struct base *base, const struct parts *parts)
     print_written(base, parts);
     print_plain(base);
     print_damaged(base, 1);
+    print_frame_readback(base);
 }
 
 static void finish_draft(struct base *base, const struct draft *draft)

@@ -1,5 +1,5 @@
 // The cases that set the base, which is a frame and its contents: building, and frames that no builder makes.
-use super::contents::all_are;
+use super::bytes::all_are;
 use super::contents::copy_counts;
 use super::contents::read_contents;
 use super::contents::read_symbols;

@@ -1,8 +1,8 @@
 // The contents and the symbols of frames, as the second program writes them.
 ghost use Prim.Native.Nat.{_≤_};
+use super::bytes::read_bits;
 use super::input::hex_digit;
 use super::input::next_character;
-use super::input::read_page;
 use super::input::read_rest;
 use words::bits::put_number;
 
@@ -11,47 +11,54 @@ const MOST: usize = 9223372036854775807;
 
 // ---- contents
 
-// Reads 33 counts and the space behind each, then 250 page bits and theirs, and says whether they are such.
+// Reads 33 counts and the space behind each, then 250 page bits, of which a byte 2 may be one, and theirs, and says whether they are
+// such.
 pub(crate) fn read_contents(counts: &mut [i64; 33], page: &mut [u8; 250]) -> bool {
-    let are_counts = read_counts(counts);
-    let are_bits = read_page(page);
+    let are_counts = read_counts(counts, 33);
+    let are_bits = read_bits(page, 2, b' ');
     are_counts && are_bits
 }
 
-// Reads as many counts as are lent, with the space behind each, up to the first that is none, and says whether there is none.
-pub(crate) fn read_counts(counts: &mut [i64]) -> bool {
+// Reads as many counts as are asked for and lent, with the space behind each, up to the first that is none, and says whether there is
+// none.
+pub(crate) fn read_counts(counts: &mut [i64], count: usize) -> bool {
     let mut k: usize = 0;
-    while k < counts.len() {
+    while k < counts.len() && k < count {
         let first = next_character();
-        let number = read_magnitude(first);
-        if number > MOST {
+        let magnitude = read_magnitude(first);
+        if magnitude > MOST {
             return false;
         }
-        counts[k] = signed(first, number);
+        counts[k] = signed(first, magnitude);
         k += 1;
     }
     true
 }
 
-// A count's first character is a minus or its first digit.
+// A count's first character is a minus or its first digit. Its magnitude is the count, or one less than what a minus stands before.
 fn read_magnitude(first: u8) -> usize {
     if first == b'-' {
-        read_rest(next_character(), b' ')
+        one_less(read_rest(next_character(), b' '))
     } else {
         read_rest(first, b' ')
     }
 }
 
-fn signed(first: u8, number: usize) -> i64
-    requires { ⌜ number ≤ 9223372036854775807 ⌝ }
-{
+// More than any magnitude where nothing is less.
+fn one_less(number: usize) -> usize {
     if number == 0 {
-        return 0;
+        return usize::MAX;
     }
+    number - 1
+}
+
+fn signed(first: u8, magnitude: usize) -> i64
+    requires { ⌜ magnitude ≤ 9223372036854775807 ⌝ }
+{
     if first == b'-' {
-        below_zero(number - 1)
+        below_zero(magnitude)
     } else {
-        number as i64
+        magnitude as i64
     }
 }
 
@@ -90,18 +97,6 @@ fn unpack(text: &[u8; 450], frame: &mut [u8; 1800]) -> bool {
             return false;
         }
         put_number(frame, i * 4, 4, four);
-        i += 1;
-    }
-    true
-}
-
-// Whether every byte is this one.
-pub(crate) fn all_are(bytes: &[u8], byte: u8) -> bool {
-    let mut i: usize = 0;
-    while i < bytes.len() {
-        if bytes[i] != byte {
-            return false;
-        }
         i += 1;
     }
     true

@@ -1,77 +1,10 @@
 // Reading the input, whose lines second/cases.c describes.
 
-// What a line is: its first three characters.
-pub(crate) enum Kind {
-    FilledTwo,
-    FilledThree,
-    UnmetTwo,
-    UnmetThree,
-    Built,
-    Written,
-    Read,
-    SheetWritten,
-    SheetRead,
-    Walked,
-    NoCase,
-    End,
-}
-
 // What stands for a number where the text is none.
 const NO_NUMBER: usize = usize::MAX;
 
 // The largest number that still takes a digit behind it.
 const TAKES_A_DIGIT: usize = 1844674407370955160;
-
-pub(crate) fn next_kind() -> Kind {
-    let mut word = [0u8; 3];
-    let n = io::read_full(0, &mut word);
-    if n == 0 {
-        return Kind::End;
-    }
-    kind_of(&word)
-}
-
-fn kind_of(word: &[u8; 3]) -> Kind {
-    if check::same(word, b"F2 ") {
-        return Kind::FilledTwo;
-    }
-    if check::same(word, b"F3 ") {
-        return Kind::FilledThree;
-    }
-    if check::same(word, b"U2 ") {
-        return Kind::UnmetTwo;
-    }
-    if check::same(word, b"U3 ") {
-        return Kind::UnmetThree;
-    }
-    kind_of_frame(word)
-}
-
-fn kind_of_frame(word: &[u8; 3]) -> Kind {
-    if check::same(word, b"FB ") {
-        return Kind::Built;
-    }
-    if check::same(word, b"FW ") {
-        return Kind::Written;
-    }
-    if check::same(word, b"FR ") {
-        return Kind::Read;
-    }
-    kind_of_sheet(word)
-}
-
-fn kind_of_sheet(word: &[u8; 3]) -> Kind {
-    if check::same(word, b"SW ") {
-        return Kind::SheetWritten;
-    }
-    if check::same(word, b"SR ") {
-        return Kind::SheetRead;
-    }
-    if check::same(word, b"SK ") {
-        return Kind::Walked;
-    }
-    Kind::NoCase
-}
 
 // The next character; 0 where there is none.
 pub(crate) fn next_character() -> u8 {
@@ -84,42 +17,8 @@ pub(crate) fn is_next(character: u8) -> bool {
     next_character() == character
 }
 
-// ---- symbols
-
-// Reads the symbols up to the line's end, and says whether they are symbols and the line ends behind them.
-pub(crate) fn read_block(block: &mut [u8]) -> bool {
-    io::read_full(0, block);
-    let are_symbols = to_values(block, 1);
-    let is_end = is_next(b'\n');
-    are_symbols && is_end
-}
-
-// Reads page bits, of which a byte 2 may be one, and the space behind them, and says whether they are such.
-pub(crate) fn read_page(page: &mut [u8]) -> bool {
-    io::read_full(0, page);
-    let are_bits = to_values(page, 2);
-    let is_space = is_next(b' ');
-    are_bits && is_space
-}
-
-// Turns digits into their values, up to the first character that is no digit up to `most`, and says whether there is none.
-fn to_values(text: &mut [u8], most: u8) -> bool {
-    let mut i: usize = 0;
-    while i < text.len() {
-        let value = digit(text[i]);
-        if value > most {
-            return false;
-        }
-        text[i] = value;
-        i += 1;
-    }
-    true
-}
-
-// ---- numbers
-
 // The digit's value; more than any digit has where it is none.
-fn digit(character: u8) -> u8 {
+pub(crate) fn digit(character: u8) -> u8 {
     if character >= b'0' && character <= b'9' {
         character - b'0'
     } else {

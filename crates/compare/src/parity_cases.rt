@@ -1,5 +1,7 @@
 // The cases of blocks of data and parity.
-use super::input::read_block;
+use super::bytes::copy_first;
+use super::bytes::first_bytes;
+use super::bytes::read_bits;
 use super::input::read_number;
 use super::told::Told;
 use super::told::is_told;
@@ -22,21 +24,12 @@ pub(crate) fn filled_three_agrees() -> bool {
     filled_agrees(Subframe::Three, &mut expected, &mut block)
 }
 
-// The block is lent with ones in it, so its parity is wrong until the library fills it.
+// The first half of a block is its data. It is lent with ones in the other, so its parity is wrong until the library fills it.
 fn filled_agrees(subframe: Subframe, expected: &mut [u8], block: &mut [u8]) -> bool {
-    let is_read = read_block(expected);
-    copy_data(expected, block);
+    let is_read = read_bits(expected, 1, b'\n');
+    copy_first(first_bytes(expected, expected.len() / 2), block);
     let answer = fill_parity(subframe, block);
     is_read && is_told(answer, nothing_refused()) && check::same(block, expected)
-}
-
-// The first half of a block is its data.
-fn copy_data(from: &[u8], to: &mut [u8]) {
-    let mut i: usize = 0;
-    while i < from.len() / 2 && i < to.len() {
-        to[i] = from[i];
-        i += 1;
-    }
 }
 
 pub(crate) fn unmet_two_agrees() -> bool {
@@ -51,7 +44,7 @@ pub(crate) fn unmet_three_agrees() -> bool {
 
 fn unmet_agrees(subframe: Subframe, number: usize, block: &mut [u8]) -> bool {
     let place = read_number(4, b' ');
-    let is_read = read_block(block);
+    let is_read = read_bits(block, 1, b'\n');
     let answer = first_unmet(subframe, block);
     is_read && is_told(answer, unmet(number, place))
 }

@@ -1,5 +1,9 @@
 // The cases of reading a frame that is made of the base.
-use super::contents::all_are;
+use super::bytes::all_are;
+use super::bytes::copy_first;
+use super::bytes::first_bytes;
+use super::bytes::set_places;
+use super::bytes::with_byte;
 use super::input::read_number;
 use super::told::Told;
 use super::told::is_told;
@@ -10,60 +14,23 @@ use frames::read::read_subframe2;
 use frames::read::read_subframe3;
 use frames::read::read_time;
 use show::same_counts;
-use words::bits::copy;
 
 pub(crate) fn read_agrees(
     base_counts: &[i64; 33],
     base_page: &[u8; 250],
     base_frame: &[u8; 1800],
+    text: &mut [u8],
 ) -> bool {
-    let mut symbols = [0u8; 1801];
-    copy(base_frame, &mut symbols[..1800]);
     let length = read_number(4, b' ');
-    let are_places = set_places(&mut symbols);
-    are_places && first_agree(&symbols, length, base_counts, base_page)
+    let are_places = read_symbols_of(base_frame, text);
+    are_places && reading_agrees(first_bytes(text, length), base_counts, base_page)
 }
 
-// The first `length` of the symbols.
-fn first_agree(
-    symbols: &[u8; 1801],
-    length: usize,
-    base_counts: &[i64; 33],
-    base_page: &[u8; 250],
-) -> bool {
-    let all: &[u8] = symbols;
-    if length > all.len() {
-        return false;
-    }
-    reading_agrees(&all[..length], base_counts, base_page)
-}
-
-// Sets the places that are told, up to the first that is none, and says whether there is none.
-fn set_places(symbols: &mut [u8; 1801]) -> bool {
-    let mut left = read_number(4, b' ');
-    if left > 1801 {
-        return false;
-    }
-    while left > 0 {
-        if !set_place(symbols) {
-            return false;
-        }
-        left -= 1;
-    }
-    true
-}
-
-fn set_place(symbols: &mut [u8; 1801]) -> bool {
-    let place = read_number(4, b' ');
-    let value = read_number(3, b' ');
-    if place > 1800 {
-        return false;
-    }
-    if value > 255 {
-        return false;
-    }
-    symbols[place] = value as u8;
-    true
+// The symbols of the frame and a 0 behind them, with the places set that are told.
+fn read_symbols_of(base_frame: &[u8; 1800], text: &mut [u8]) -> bool {
+    copy_first(base_frame, text);
+    with_byte(text, 1800, 0);
+    set_places(text)
 }
 
 fn reading_agrees(symbols: &[u8], base_counts: &[i64; 33], base_page: &[u8; 250]) -> bool {

@@ -1,10 +1,12 @@
-// The cases of sheets that are written, which set the base sheet, and of sheets that are read.
+// The cases of sheets that are written, which set the base text, and of sheets that are read.
+use super::bytes::all_are;
+use super::bytes::bytes_behind;
+use super::bytes::copy_first;
+use super::bytes::first_bytes;
 use super::contents::copy_counts;
 use super::contents::read_counts;
 use super::input::read_number;
-use super::texts::first_bytes;
 use super::texts::read_text;
-use super::texts::text_bytes;
 use super::told::Told;
 use super::told::is_told;
 use super::told::nothing_refused;
@@ -16,7 +18,6 @@ use sheets::trailer::sheet_start;
 use sheets::write::write_sheet;
 use show::is_done;
 use show::same_counts;
-use words::bits::copy;
 
 // What bytes hold that are lent to be written in.
 const GARBAGE: u8 = 7;
@@ -25,43 +26,43 @@ const GARBAGE: u8 = 7;
 
 pub(crate) fn sheet_written_agrees(
     base_numbers: &mut [i64; 34],
-    base_sheet: &mut [u8; 5000],
+    base_text: &mut [u8],
+    text: &mut [u8],
 ) -> bool {
     let mut numbers = [0i64; 34];
-    let mut expected = [GARBAGE; 5000];
     let room = read_number(4, b' ');
-    let are_numbers = read_counts(&mut numbers);
+    let are_numbers = read_counts(&mut numbers, 34);
     let told = read_told(b' ');
     let size = read_number(4, b' ');
-    let count = read_text(base_sheet, &mut expected, b'\n');
-    set_base_sheet(told, &numbers, &expected, base_numbers, base_sheet);
-    are_numbers && count == size && writing_agrees(&numbers, room, told, size, &expected)
+    let count = read_text(base_text, text, b'\n');
+    let expected = first_bytes(text, count);
+    set_base(told, &numbers, expected, base_numbers, base_text);
+    are_numbers && count == size && writing_agrees(&numbers, room, told, expected)
 }
 
-// A sheet that is told to be written becomes the base sheet.
-fn set_base_sheet(
+// A sheet that is told to be written becomes the base text.
+fn set_base(
     told: Told,
     numbers: &[i64; 34],
-    sheet: &[u8; 5000],
+    sheet: &[u8],
     base_numbers: &mut [i64; 34],
-    base_sheet: &mut [u8; 5000],
+    base_text: &mut [u8],
 ) {
     if tells_done(told) {
         copy_counts(numbers, base_numbers);
-        copy(sheet, base_sheet);
+        copy_first(sheet, base_text);
     }
 }
 
 // Behind the sheet, or everywhere where it is refused, what was lent has to stay as it was.
-fn writing_agrees(
-    numbers: &[i64; 34],
-    room: usize,
-    told: Told,
-    size: usize,
-    expected: &[u8; 5000],
-) -> bool {
+fn writing_agrees(numbers: &[i64; 34], room: usize, told: Told, expected: &[u8]) -> bool {
     let mut out = [GARBAGE; 5000];
-    first_written_agree(numbers, &mut out, room, told, size) && check::same(&out, expected)
+    first_written_agree(numbers, &mut out, room, told, expected.len()) && is_written(&out, expected)
+}
+
+fn is_written(out: &[u8; 5000], expected: &[u8]) -> bool {
+    check::same(first_bytes(out, expected.len()), expected)
+        && all_are(bytes_behind(out, expected.len()), GARBAGE)
 }
 
 // Into the first `room` bytes.
@@ -82,12 +83,15 @@ fn first_written_agree(
 
 // ---- reading
 
-pub(crate) fn sheet_read_agrees(base_numbers: &[i64; 34], base_sheet: &[u8; 5000]) -> bool {
-    let mut text = [0u8; 5000];
-    let count = read_text(base_sheet, &mut text, b' ');
+pub(crate) fn sheet_read_agrees(
+    base_numbers: &[i64; 34],
+    base_text: &[u8],
+    text: &mut [u8],
+) -> bool {
+    let count = read_text(base_text, text, b' ');
     let told = read_told(b' ');
     let start = read_number(4, b'\n');
-    count <= 5000 && reading_agrees(text_bytes(&text, count), told, start, base_numbers)
+    count <= text.len() && reading_agrees(first_bytes(text, count), told, start, base_numbers)
 }
 
 fn reading_agrees(bytes: &[u8], told: Told, start: usize, base_numbers: &[i64; 34]) -> bool {

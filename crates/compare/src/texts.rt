@@ -1,4 +1,5 @@
-// The texts of sheets, as the second program writes them.
+// Texts, as the second program writes them.
+use super::bytes::with_byte;
 use super::input::hex_digit;
 use super::input::next_character;
 use super::input::read_number;
@@ -9,11 +10,14 @@ const NO_BYTE: usize = 256;
 // What stands for a length where the characters are no text.
 const NO_TEXT: usize = usize::MAX;
 
+// More pieces than any text has.
+const MOST_PIECES: usize = 10000;
+
 // Reads a text up to the character that has to end it, and gives its length; more than there is room for where it is none.
-pub(crate) fn read_text(base: &[u8; 5000], text: &mut [u8; 5000], end: u8) -> usize {
+pub(crate) fn read_text(base: &[u8], text: &mut [u8], end: u8) -> usize {
     let mut at: usize = 0;
     let mut character = next_character();
-    let mut left: usize = 5001;
+    let mut left = MOST_PIECES;
     while left > 0 && character != end {
         at = with_piece(base, text, at, character);
         character = next_character();
@@ -22,8 +26,8 @@ pub(crate) fn read_text(base: &[u8; 5000], text: &mut [u8; 5000], end: u8) -> us
     if character == end { at } else { NO_TEXT }
 }
 
-// What begins with this character: a part of the base sheet, or a byte.
-fn with_piece(base: &[u8; 5000], text: &mut [u8; 5000], at: usize, character: u8) -> usize {
+// What begins with this character: a part of the base text, or a byte.
+fn with_piece(base: &[u8], text: &mut [u8], at: usize, character: u8) -> usize {
     if character == b'@' {
         let from = read_number(4, b',');
         let count = read_number(4, b';');
@@ -36,17 +40,11 @@ fn with_piece(base: &[u8; 5000], text: &mut [u8; 5000], at: usize, character: u8
     with_byte(text, at, byte as u8)
 }
 
-fn with_part(
-    base: &[u8; 5000],
-    from: usize,
-    count: usize,
-    text: &mut [u8; 5000],
-    at: usize,
-) -> usize {
-    if from > 5000 {
+fn with_part(base: &[u8], from: usize, count: usize, text: &mut [u8], at: usize) -> usize {
+    if from > base.len() {
         return NO_TEXT;
     }
-    if count > 5000 - from {
+    if count > base.len() - from {
         return NO_TEXT;
     }
     let mut next = at;
@@ -56,14 +54,6 @@ fn with_part(
         i += 1;
     }
     next
-}
-
-fn with_byte(text: &mut [u8; 5000], at: usize, byte: u8) -> usize {
-    if at >= 5000 {
-        return NO_TEXT;
-    }
-    text[at] = byte;
-    at + 1
 }
 
 fn byte_of(character: u8) -> usize {
@@ -89,17 +79,4 @@ fn escaped_byte() -> usize {
         return NO_BYTE;
     }
     (high * 16 + low) as usize
-}
-
-// The bytes of a text of this length.
-pub(crate) fn text_bytes<'a>(text: &'a [u8; 5000], count: usize) -> &'a [u8] {
-    first_bytes(text, count)
-}
-
-// The first so many bytes; all, where there are fewer.
-pub(crate) fn first_bytes<'a>(bytes: &'a [u8], count: usize) -> &'a [u8] {
-    if count > bytes.len() {
-        return bytes;
-    }
-    &bytes[..count]
 }

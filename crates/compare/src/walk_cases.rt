@@ -1,8 +1,8 @@
 // The cases of walks over sheets.
+use super::bytes::first_bytes;
 use super::contents::read_counts;
 use super::input::read_number;
 use super::texts::read_text;
-use super::texts::text_bytes;
 use super::told::Told;
 use super::told::is_told;
 use super::told::read_told;
@@ -15,12 +15,11 @@ struct Walked {
     place: usize,
 }
 
-pub(crate) fn walk_agrees(base_sheet: &[u8; 5000]) -> bool {
-    let mut text = [0u8; 5000];
-    let count = read_text(base_sheet, &mut text, b' ');
+pub(crate) fn walk_agrees(base_text: &[u8], text: &mut [u8]) -> bool {
+    let count = read_text(base_text, text, b' ');
     let place = read_number(4, b' ');
     let steps = read_number(4, b' ');
-    count <= 5000 && steps_agree(text_bytes(&text, count), place, steps)
+    count <= text.len() && steps_agree(first_bytes(text, count), place, steps)
 }
 
 fn steps_agree(bytes: &[u8], place: usize, steps: usize) -> bool {
@@ -45,7 +44,7 @@ fn step_end(left: usize) -> u8 {
 fn with_step(bytes: &[u8], walked: Walked, end: u8) -> Walked {
     let mut numbers = [0i64; 34];
     let finished = read_number(1, b' ');
-    let are_numbers = read_counts(&mut numbers);
+    let are_numbers = read_counts(&mut numbers, 34);
     let told = read_told(b' ');
     let place = read_number(4, end);
     let is_step = step_agrees(bytes, walked.place, finished, &numbers, told, place);

@@ -5,15 +5,16 @@ use Rattle.compare.proofs.cases.run_on.Statement.{statement}
 use Rattle.compare.proofs.cases.run_on.Tie as tie
 
 abbrev Inv-loop : tie.InvT-loop
-Inv-loop counts₀ page₀ frame₀ numbers₀ sheet₀ tally₀ kind₀ turns₀ counts page frame numbers sheet tally kind turns =
+Inv-loop
+    tally₀ counts₀ page₀ frame₀ numbers₀ base-text₀ text₀ printed₀ kind₀ turns₀
+    tally counts page frame numbers base-text text printed kind turns =
     Unit {0}
 
 abbrev μ-loop : tie.MeasureT-loop
-μ-loop counts₀ page₀ frame₀ numbers₀ sheet₀ tally₀ kind₀ turns₀ counts page frame numbers sheet tally kind turns =
+μ-loop
+    tally₀ counts₀ page₀ frame₀ numbers₀ base-text₀ text₀ printed₀ kind₀ turns₀
+    tally counts page frame numbers base-text text printed kind turns =
     turns
-
-nothing-yet-requires : tie.Need-nothing-yet-requires Inv-loop μ-loop
-nothing-yet-requires c κs = search needs
 
 next-kind-requires : tie.Need-next-kind-requires Inv-loop μ-loop
 next-kind-requires c κs = search needs
@@ -21,14 +22,11 @@ next-kind-requires c κs = search needs
 loop-holds : tie.Need-loop-holds Inv-loop μ-loop
 loop-holds c = search needs
 
-is-case-requires : tie.Need-is-case-requires Inv-loop μ-loop
-is-case-requires c κs = search needs
-
 agrees-requires : tie.Need-agrees-requires Inv-loop μ-loop
 agrees-requires c κs = search needs
 
-with-case-requires : tie.Need-with-case-requires Inv-loop μ-loop
-with-case-requires c κs = search needs
+add-case-requires : tie.Need-add-case-requires Inv-loop μ-loop
+add-case-requires c κs = search needs
 
 next-kind-requires-2 : tie.Need-next-kind-requires-2 Inv-loop μ-loop
 next-kind-requires-2 c κs = search needs
@@ -54,12 +52,10 @@ run-on-spec =
     (tie.spec
     Inv-loop
     μ-loop
-    nothing-yet-requires
     next-kind-requires
     loop-holds
-    is-case-requires
     agrees-requires
-    with-case-requires
+    add-case-requires
     next-kind-requires-2
     sub-turns
     loop-less

@@ -1,4 +1,5 @@
--- `compare::contents::read_counts` is safe and ends. The counts keep their number; the measure is how many are left. Assumes nothing.
+-- `compare::contents::read_counts` is safe and ends. The counts keep their number; the measure is how many are left. Assumes
+-- nothing.
 use mathlib.Core.Path.{_≡_}
 use Prim.Native.Nat.{_-_}
 use native.Mathlib.Omega.{arith}
@@ -8,10 +9,10 @@ use Rattle.compare.proofs.contents.read_counts.Statement.{statement}
 use Rattle.compare.proofs.contents.read_counts.Tie as tie
 
 abbrev Inv-loop : tie.InvT-loop
-Inv-loop counts₀ k₀ counts k = length counts ≡ length counts₀
+Inv-loop counts₀ count k₀ counts k = length counts ≡ length counts₀
 
 abbrev μ-loop : tie.MeasureT-loop
-μ-loop counts₀ k₀ counts k = length counts₀ - k
+μ-loop counts₀ count k₀ counts k = length counts₀ - k
 
 loop-holds : tie.Need-loop-holds Inv-loop μ-loop
 loop-holds c = search needs
@@ -31,8 +32,8 @@ returns c = search needs
 signed-requires : tie.Need-signed-requires Inv-loop μ-loop
 signed-requires c κs = search needs
 
-mul-t5 : tie.Need-mul-t5 Inv-loop μ-loop
-mul-t5 c = search needs
+mul-t7 : tie.Need-mul-t7 Inv-loop μ-loop
+mul-t7 c = search needs
 
 slice-set-from-counts : tie.Need-slice-set-from-counts Inv-loop μ-loop
 slice-set-from-counts c = search needs
@@ -52,6 +53,12 @@ same-length-2 c = search needs
 returns-2 : tie.Need-returns-2 Inv-loop μ-loop
 returns-2 c = search needs
 
+same-length-3 : tie.Need-same-length-3 Inv-loop μ-loop
+same-length-3 c = search needs
+
+returns-3 : tie.Need-returns-3 Inv-loop μ-loop
+returns-3 c = search needs
+
 pub read-counts-spec : {M : Type 1} → statement M
 read-counts-spec =
     tie.close
@@ -64,10 +71,12 @@ read-counts-spec =
     same-length
     returns
     signed-requires
-    mul-t5
+    mul-t7
     slice-set-from-counts
     add-k
     loop-less
     loop-again
     same-length-2
-    returns-2)
+    returns-2
+    same-length-3
+    returns-3)

@@ -1,10 +1,13 @@
--- `compare::texts::read_text` is safe and ends. The measure is how many pieces more are taken. Assumes nothing.
+-- `compare::texts::read_text` is safe and ends. The text keeps its length; the measure is how many pieces more are taken. Assumes
+-- nothing.
+use mathlib.Core.Path.{_≡_}
+use lib.ListN.{length}
 use borrow.Author.Needs.{needs}
 use Rattle.compare.proofs.texts.read_text.Statement.{statement}
 use Rattle.compare.proofs.texts.read_text.Tie as tie
 
 abbrev Inv-loop : tie.InvT-loop
-Inv-loop base text₀ end at₀ character₀ left₀ text at character left = Unit {0}
+Inv-loop base text₀ end at₀ character₀ left₀ text at character left = length text ≡ length text₀
 
 abbrev μ-loop : tie.MeasureT-loop
 μ-loop base text₀ end at₀ character₀ left₀ text at character left = left
@@ -30,8 +33,14 @@ loop-less c = search needs
 loop-again : tie.Need-loop-again Inv-loop μ-loop
 loop-again c = search needs
 
+same-length : tie.Need-same-length Inv-loop μ-loop
+same-length c = search needs
+
 returns : tie.Need-returns Inv-loop μ-loop
 returns c = search needs
+
+same-length-2 : tie.Need-same-length-2 Inv-loop μ-loop
+same-length-2 c = search needs
 
 returns-2 : tie.Need-returns-2 Inv-loop μ-loop
 returns-2 c = search needs
@@ -49,5 +58,7 @@ read-text-spec =
     sub-left
     loop-less
     loop-again
+    same-length
     returns
+    same-length-2
     returns-2)

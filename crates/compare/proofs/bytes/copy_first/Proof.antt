@@ -1,27 +1,27 @@
--- `compare::parity_cases::copy_data` is safe and ends. Both slices keep their lengths; the measure is what is left of `from`.
+-- `compare::bytes::copy_first` is safe and ends. The bytes written keep their number; the measure is what is left of `from`.
 -- Assumes nothing.
 use mathlib.Core.Path.{_≡_}
 use Prim.Native.Nat.{_-_}
 use native.Mathlib.Omega.{arith}
 use lib.ListN.{length, length-set}
 use borrow.Author.Needs.{needs}
-use Rattle.compare.proofs.parity_cases.copy_data.Statement.{statement}
-use Rattle.compare.proofs.parity_cases.copy_data.Tie as tie
+use Rattle.compare.proofs.bytes.copy_first.Statement.{statement}
+use Rattle.compare.proofs.bytes.copy_first.Tie as tie
 
 abbrev Inv-loop : tie.InvT-loop
-Inv-loop from to₀ i₀ to i = length to ≡ length to₀
+Inv-loop from into₀ i₀ into i = length into ≡ length into₀
 
 abbrev μ-loop : tie.MeasureT-loop
-μ-loop from to₀ i₀ to i = length from - i
+μ-loop from into₀ i₀ into i = length from - i
 
 loop-holds : tie.Need-loop-holds Inv-loop μ-loop
 loop-holds c = search needs
 
-shared-slice-read-to : tie.Need-shared-slice-read-to Inv-loop μ-loop
-shared-slice-read-to c = search needs
+shared-slice-read-into : tie.Need-shared-slice-read-into Inv-loop μ-loop
+shared-slice-read-into c = search needs
 
-slice-write-to : tie.Need-slice-write-to Inv-loop μ-loop
-slice-write-to c = search needs
+slice-write-into : tie.Need-slice-write-into Inv-loop μ-loop
+slice-write-into c = search needs
 
 add-i : tie.Need-add-i Inv-loop μ-loop
 add-i c = search needs
@@ -44,15 +44,15 @@ same-length-2 c = search needs
 returns-2 : tie.Need-returns-2 Inv-loop μ-loop
 returns-2 c = search needs
 
-pub copy-data-spec : {M : Type 1} → statement M
-copy-data-spec =
+pub copy-first-spec : {M : Type 1} → statement M
+copy-first-spec =
     tie.close
     (tie.spec
     Inv-loop
     μ-loop
     loop-holds
-    shared-slice-read-to
-    slice-write-to
+    shared-slice-read-into
+    slice-write-into
     add-i
     loop-less
     loop-again

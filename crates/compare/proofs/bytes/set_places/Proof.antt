@@ -1,13 +1,16 @@
--- `compare::read_cases::set_places` is safe and ends. The measure is how many places are left. Assumes nothing.
+-- `compare::bytes::set_places` is safe and ends. The bytes keep their number; the measure is how many places are left. Assumes
+-- nothing.
+use mathlib.Core.Path.{_≡_}
+use lib.ListN.{length}
 use borrow.Author.Needs.{needs}
-use Rattle.compare.proofs.read_cases.set_places.Statement.{statement}
-use Rattle.compare.proofs.read_cases.set_places.Tie as tie
+use Rattle.compare.proofs.bytes.set_places.Statement.{statement}
+use Rattle.compare.proofs.bytes.set_places.Tie as tie
 
 abbrev Inv-loop : tie.InvT-loop
-Inv-loop symbols₀ left₀ symbols left = Unit {0}
+Inv-loop bytes₀ left₀ bytes left = length bytes ≡ length bytes₀
 
 abbrev μ-loop : tie.MeasureT-loop
-μ-loop symbols₀ left₀ symbols left = left
+μ-loop bytes₀ left₀ bytes left = left
 
 read-number-requires : tie.Need-read-number-requires Inv-loop μ-loop
 read-number-requires c κs = search needs
@@ -21,6 +24,9 @@ loop-holds c = search needs
 set-place-requires : tie.Need-set-place-requires Inv-loop μ-loop
 set-place-requires c κs = search needs
 
+same-length : tie.Need-same-length Inv-loop μ-loop
+same-length c = search needs
+
 returns-2 : tie.Need-returns-2 Inv-loop μ-loop
 returns-2 c = search needs
 
@@ -32,6 +38,9 @@ loop-less c = search needs
 
 loop-again : tie.Need-loop-again Inv-loop μ-loop
 loop-again c = search needs
+
+same-length-2 : tie.Need-same-length-2 Inv-loop μ-loop
+same-length-2 c = search needs
 
 returns-3 : tie.Need-returns-3 Inv-loop μ-loop
 returns-3 c = search needs
@@ -46,8 +55,10 @@ set-places-spec =
     returns
     loop-holds
     set-place-requires
+    same-length
     returns-2
     sub-left
     loop-less
     loop-again
+    same-length-2
     returns-3)

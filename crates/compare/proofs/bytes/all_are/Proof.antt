@@ -1,9 +1,9 @@
--- `compare::contents::all_are` is safe and ends. The measure is what is left of the bytes. Assumes nothing.
+-- `compare::bytes::all_are` is safe and ends. The measure is what is left of the bytes. Assumes nothing.
 use Prim.Native.Nat.{_-_}
 use lib.ListN.{length}
 use borrow.Author.Needs.{needs}
-use Rattle.compare.proofs.contents.all_are.Statement.{statement}
-use Rattle.compare.proofs.contents.all_are.Tie as tie
+use Rattle.compare.proofs.bytes.all_are.Statement.{statement}
+use Rattle.compare.proofs.bytes.all_are.Tie as tie
 
 abbrev Inv-loop : tie.InvT-loop
 Inv-loop bytes byte i₀ i = Unit {0}

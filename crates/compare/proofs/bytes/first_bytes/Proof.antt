@@ -1,9 +1,9 @@
--- `compare::texts::first_bytes` is safe. Assumes nothing.
+-- `compare::bytes::first_bytes` is safe. Assumes nothing.
 use native.Mathlib.Omega.{arith}
 use lib.ListN.{length-take}
 use borrow.Author.Needs.{needs}
-use Rattle.compare.proofs.texts.first_bytes.Statement.{statement}
-use Rattle.compare.proofs.texts.first_bytes.Tie as tie
+use Rattle.compare.proofs.bytes.first_bytes.Statement.{statement}
+use Rattle.compare.proofs.bytes.first_bytes.Tie as tie
 
 returns : tie.Need-returns
 returns c = search needs

@@ -1,11 +1,11 @@
--- `compare::input::to_values` is safe and ends. The text keeps its length; the measure is what is left of it. Assumes nothing.
+-- `compare::bytes::to_values` is safe and ends. The text keeps its length; the measure is what is left of it. Assumes nothing.
 use mathlib.Core.Path.{_≡_}
 use Prim.Native.Nat.{_-_}
 use native.Mathlib.Omega.{arith}
 use lib.ListN.{length, length-set}
 use borrow.Author.Needs.{needs}
-use Rattle.compare.proofs.input.to_values.Statement.{statement}
-use Rattle.compare.proofs.input.to_values.Tie as tie
+use Rattle.compare.proofs.bytes.to_values.Statement.{statement}
+use Rattle.compare.proofs.bytes.to_values.Tie as tie
 
 abbrev Inv-loop : tie.InvT-loop
 Inv-loop text₀ most i₀ text i = length text ≡ length text₀
