@@ -10,6 +10,7 @@ use Rattle.words.specs.Refusal.{refusedAt}
 use Rattle.words.specs.Sums.{differing}
 use Rattle.words.specs.Time.{timeRead}
 use Rattle.words.specs.declared.refusal.Answer.{Answer}
+use Rattle.words.specs.declared.refusal.Answer.the-variants.{Done}
 use Rattle.frames.specs.Frame.{Contents, GoodContents, orderedIn, frameOf, timeIn}
 use Rattle.frames.specs.Read.{frameIs, frameRead, contentsIn}
 use Rattle.frames.specs.Reading.{read-exactly, read-built, built-again}
@@ -24,6 +25,34 @@ use Rattle.programs.specs.Bench.{frame-printed}
 use Rattle.programs.specs.Laws.Reading.{frame-input-refused, frame-input-verdict, read-is, symbols-are, reads, reads-done, done-reads-as}
 use Rattle.programs.specs.Laws.Texts.{input-right, contents-after, texts-differ}
 
+-- ---- good input
+
+-- the input is not refused, and these contents and so many time symbols corrected stand in its symbols
+abbrev pub DoneWith : Contents → ℕ → List ℕ → Type 0
+DoneWith c places input =
+    (frameInputAnswer input ≡ Done)
+    × (contentsIn (symbolsIn (frameLine input)) ≡ c)
+    × (timeRead (timeIn (symbolsIn (frameLine input))) .corrected ≡ places)
+
+-- That is so exactly if the input is the symbols of a frame that stands for these contents, with so many of its time symbols to correct.
+pub line-exactly : (c : Contents) (places : ℕ) (input : List ℕ) → DoneWith c places input ↔ IsFrameLine c places input
+line-exactly c places input = (to, from)
+  where
+    to : DoneWith c places input → IsFrameLine c places input
+    to h =
+        let f = symbolsIn (frameLine input) in
+        subst (λ (x : Contents). IsFrameLine x places input) (h .1)
+        (subst (λ (k : ℕ). IsFrameLine (contentsIn f) k input) (h .2) (done-reads-as input (h .0)))
+
+    from : IsFrameLine c places input → DoneWith c places input
+    from is =
+        let same = symbols-are c places input is in
+        let read = read-is (is .symbols) c places (reads c places input is) in (
+          reads-done c places input is,
+          ap contentsIn same ∙ read .1,
+          ap (λ (l : List ℕ). timeRead (timeIn l) .corrected) same ∙ read .2,
+        )
+
 -- ---- what is printed
 
 abbrev whenDone : List ℕ → List ℕ
@@ -33,11 +62,8 @@ whenDone input = contentsText (contentsIn (symbolsIn (frameLine input))) (timeRe
 pub sheet-printed : (c : Contents) (places : ℕ) (input : List ℕ) → IsFrameLine c places input → printedSheet input ≡ contentsText c places
 unfolding printedSheet
 sheet-printed c places input is =
-    let same = symbols-are c places input is in
-    let read = read-is (is .symbols) c places (reads c places input is) in
-    ap (λ (a : Answer). textBy a (whenDone input)) (reads-done c places input is)
-    ∙ ap (λ (f : List ℕ). contentsText (contentsIn f) (timeRead (timeIn f) .corrected)) same
-    ∙ ap₂ contentsText (read .1) (read .2)
+    let h = line-exactly c places input .1 is in
+    ap (λ (a : Answer). textBy a (whenDone input)) (h .0) ∙ ap₂ contentsText (h .1) (h .2)
 
 refused-text : (input : List ℕ) (n p : ℕ) → frameInputAnswer input ≡ refusedAt n p → printedSheet input ≡ refusalText n p
 unfolding printedSheet
