@@ -16,9 +16,7 @@ void random_parts(struct input_parts *parts)
 void start_page_line(struct text *text, const unsigned char *page)
 {
     text->count = 0;
-    for (int i = 0; i < PAGE_BITS; i++)
-        add_string(text, page[i] == 1 ? "1" : "0");
-    add_string(text, "\n");
+    add_bit_line(text, page, PAGE_BITS);
 }
 
 void make_input(struct text *text, const struct input_parts *parts)

@@ -7,8 +7,7 @@
 
 /* Printing. */
 
-/* Bits as a line of characters. */
-static void add_bit_line(struct text *text, const unsigned char *bits, int count)
+void add_bit_line(struct text *text, const unsigned char *bits, int count)
 {
     for (int i = 0; i < count; i++)
         add_string(text, bits[i] == 1 ? "1" : "0");

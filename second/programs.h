@@ -7,6 +7,9 @@
 
 enum { MOST_INPUT = 8192 };
 
+/* Bits as a line of characters. */
+void add_bit_line(struct text *text, const unsigned char *bits, int count);
+
 /* A page line and a sheet give a frame. */
 void run_bench(const struct codes *codes, const struct text *input, struct text *output);
 
