@@ -1,0 +1,4 @@
+-- The laws below the theorems.
+pub mod Codable
+pub mod Frames
+pub mod Sheets

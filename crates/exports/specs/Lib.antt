@@ -1,0 +1,5 @@
+pub mod Code
+pub mod Calls
+pub mod Laws
+pub mod Told
+pub mod Called
