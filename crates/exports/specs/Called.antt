@@ -1,27 +1,27 @@
 -- THEOREMS: what a caller in another language relies on, said of what the calls return: a refusal leaves what is lent, a number that is no
 -- time is refused, what is built is read, and what is written is read.
 -- Assumes nothing.
-use mathlib.Core.Path.{_≡_, refl, sym, ap, ap₂, _∙_, subst}
+use mathlib.Core.Path.{_≡_, refl, sym, ap, _∙_, subst}
 use mathlib.Core.Bool.{Bool, true, false, _&&_}
 use mathlib.Core.List.{List, [], _∷_}
-use Prim.Native.Nat.{ℕ, zero, suc, _/_, _≤_, _<_, min}
+use Prim.Native.Nat.{ℕ, _/_, _≤_, _<_}
 use native.Mathlib.Omega.{arith}
 use lib.Dec.{eqb, leb, ltb}
 use lib.IntN.{ℤ, pos, negsuc}
 use lib.ListN.{length, getD, drop, take, length-drop, length-take}
 use borrow.Author.Tests.{eqb-true, eq-eqb, leb-true, lt-ltb}
 use Rattle.words.specs.Bits.{IsBits, firstNotBit}
-use Rattle.words.specs.Refusal.{LENGTH, TIME, refusedAt, doneIf, inTurn, leftBy, numberOf}
+use Rattle.words.specs.Refusal.{LENGTH, TIME, refusedAt, doneIf, leftBy}
 use Rattle.words.specs.Time.{LAST-TOI}
 use Rattle.words.specs.Unchanged.{Refuses, refused-by-answer}
 use Rattle.words.specs.Laws.Digits.{bits-none}
-use Rattle.words.specs.Laws.Turns.{both-done, test-done, judged-on}
+use Rattle.words.specs.Laws.Turns.{both-done, test-done}
 use Rattle.words.specs.declared.refusal.Answer.{Answer}
 use Rattle.words.specs.declared.refusal.Answer.the-variants.{Done, Refused}
 use Rattle.fields.specs.Subframe2.{COUNTS-2}
 use Rattle.fields.specs.Pages.{PAGE-BITS}
 use Rattle.frames.specs.Frame.{Contents, FRAME, frameOf}
-use Rattle.frames.specs.Build.{buildAnswer, buildBytes}
+use Rattle.frames.specs.Build.{buildAnswer}
 use Rattle.frames.specs.Read.{frameIs, frameRead, timeAlone, subframe2Alone, subframe3Alone}
 use Rattle.frames.specs.Building.{build-exactly, built-read}
 use Rattle.frames.specs.declared.read.Frame.{Frame}
@@ -30,7 +30,7 @@ use Rattle.sheets.specs.Sheet.{sheetIs, sheetRead}
 use Rattle.sheets.specs.Write.{sheetWritten, writtenBytes}
 use Rattle.sheets.specs.Writing.{write-unchanged, written-read}
 use Rattle.sheets.specs.declared.sheet.Sheet.{Sheet}
-use Rattle.exports.specs.Code.{HALF, codeOf, Tells}
+use Rattle.exports.specs.Code.{HALF, codeOf, Reports}
 use Rattle.exports.specs.Calls.{lentAnswer, numbersLeft, toiOf, contentsGiven, buildCall, buildCallFrame, readCall, readCallNumbers, readCallPage, timeCall, timeCallTime, subframe2Call, subframe2CallCounts, subframe3Call, subframe3CallPage, sheetCall, sheetCallNumbers}
 use Rattle.exports.specs.Told.{build-told, read-told, time-told, subframe2-told, subframe3-told, sheet-told, written-told}
 use Rattle.exports.specs.Laws.Sheets.{written-answer, written-few}
@@ -41,7 +41,7 @@ use Rattle.exports.specs.Laws.Sheets.{written-answer, written-few}
 abbrev pub IsRefused : ℕ → Type 0
 IsRefused code = code / HALF ≡ 0 → ⊥
 
-refuses : (a : Answer) (said : ℕ) → Tells (codeOf a said) a said → IsRefused (codeOf a said) → Refuses a
+refuses : (a : Answer) (said : ℕ) → Reports (codeOf a said) a said → IsRefused (codeOf a said) → Refuses a
 refuses a said told h e = h (told .number ∙ e)
 
 numbers-stay : (a : Answer) (new zs : List ℤ) → Refuses a → numbersLeft a new zs ≡ zs

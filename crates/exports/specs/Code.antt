@@ -25,9 +25,9 @@ abbrev pub lowOf : Answer → ℕ → ℕ
 lowOf Done said = said
 lowOf (Refused r) said = r .place
 
--- what is returned tells an answer: the high half is its number, which is 0 only where nothing is refused, and the low half its place, or
+-- what is returned reports an answer: the high half is its number, which is 0 only where nothing is refused, and the low half its place, or
 -- what is said
-pub record Tells (code : ℕ) (a : Answer) (said : ℕ) : Type 0 where
+pub record Reports (code : ℕ) (a : Answer) (said : ℕ) : Type 0 where
   pub number : code / HALF ≡ numberOf a
   pub none : code / HALF ≡ 0 → a ≡ Done
   pub low : code % HALF ≡ lowOf a said

@@ -127,8 +127,8 @@ pub extern "C" fn l1c_read_subframe3(frame: &[u8], page: &mut [u8]) -> u64
     match answer {
         Answer::Refused(r) => refusal_code(r.number, r.place),
         Answer::Done => {
-            let bits = found.page;
-            copy(&bits, page);
+            let page_bits = found.page;
+            copy(&page_bits, page);
             0
         }
     }

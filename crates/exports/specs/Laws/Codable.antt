@@ -1,15 +1,14 @@
--- Answers that a call's number tells: a refusal has a number that is not 0, and its place fits in 32 bits.
+-- Answers that a call's number reports: a refusal has a number that is not 0, and its place fits in 32 bits.
 -- Assumes nothing.
 use mathlib.Core.Path.{_≡_, refl, sym, _∙_}
 use mathlib.Core.Bool.{Bool, true, false}
-use mathlib.Core.List.{List}
-use Prim.Native.Nat.{ℕ, _/_, _%_, _≤_, _<_}
+use Prim.Native.Nat.{ℕ, _/_, _<_}
 use native.Mathlib.Omega.{arith}
-use Rattle.words.specs.Refusal.{refusedAt, doneIf, inTurn, judged, numberOf, placeOf}
+use Rattle.words.specs.Refusal.{doneIf, inTurn, judged, placeOf}
 use Rattle.words.specs.declared.refusal.Answer.{Answer}
 use Rattle.words.specs.declared.refusal.Answer.the-variants.{Done, Refused}
-use Rattle.words.specs.Laws.Turns.{Numbered, test-numbered, turn-numbered}
-use Rattle.exports.specs.Code.{HALF, refusalCode, codeOf, Tells}
+use Rattle.words.specs.Laws.Turns.{Numbered, test-numbered}
+use Rattle.exports.specs.Code.{HALF, refusalCode, codeOf, Reports}
 
 pub record Codable (a : Answer) : Type 0 where
   pub numbered : Numbered a
@@ -38,11 +37,11 @@ judged-codable true true first a fits ha = ha
 judged-codable true false first a fits ha = record { numbered = λ e. absurd (omega arith); low = fits refl }
 judged-codable false bits first a fits ha = record { numbered = λ e. absurd (omega arith); low = omega arith }
 
--- so what is returned tells such an answer, where what is said fits in 32 bits
-pub tells : (a : Answer) (said : ℕ) → Codable a → (a ≡ Done → said < HALF) → Tells (codeOf a said) a said
-tells Done said h fits =
+-- so what is returned reports such an answer, where what is said fits in 32 bits
+pub code-reports : (a : Answer) (said : ℕ) → Codable a → (a ≡ Done → said < HALF) → Reports (codeOf a said) a said
+code-reports Done said h fits =
     let small : said < HALF = fits refl in
     record { number = omega arith; none = λ e. refl; low = omega arith }
-tells (Refused r) said h fits =
+code-reports (Refused r) said h fits =
     let high : refusalCode (r .number) (r .place) / HALF ≡ r .number = omega (arith, h .low) in
     record { number = high; none = λ e. h .numbered (sym high ∙ e); low = omega (arith, h .low) }

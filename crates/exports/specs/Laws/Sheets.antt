@@ -1,4 +1,4 @@
--- What the calls on sheets answer is told by their numbers.
+-- What the calls on sheets answer is reported by their numbers.
 -- Assumes nothing.
 use mathlib.Core.Path.{_≡_, refl, sym, ap, _∙_, subst}
 use mathlib.Core.Bool.{Bool, true, false, cond, not}
