@@ -86,23 +86,32 @@ static void measure(const struct work *work)
 static void measure_growth(const struct work *work)
 {
     printf("%-28s", work->what);
-    for (int calls = 256; calls <= 4096; calls *= 4)
-        printf("   %5d: %8.2f us", calls, time_of(work->library, calls) / 1000);
+    for (int calls = 256; calls <= 16384; calls *= 4) {
+        double each[ROUNDS];
+        for (int r = 0; r < ROUNDS; r++)
+            each[r] = time_of(work->library, calls);
+        printf("   %5d: %6.2f us", calls, median(each) / 1000);
+    }
     printf("   each\n");
 }
 
+/* How the time of reading every sheet of a file grows with them; how many walks came to another number of sheets. */
 static int measure_files(void)
 {
     int differing = 0;
     for (int sheets = 1; sheets <= MOST_SHEETS; sheets *= 8) {
+        double library[ROUNDS], second[ROUNDS];
         int size = make_file(sheets);
-        double start = now();
-        differing += library_walk(size) != sheets;
-        double middle = now();
-        differing += second_walk(size) != sheets;
-        double end = now();
-        printf("%4d sheets, %7d bytes: library %6.2f us a sheet, second %6.2f\n", sheets, size, (middle - start) / sheets / 1000,
-               (end - middle) / sheets / 1000);
+        for (int r = 0; r < ROUNDS; r++) {
+            double start = now();
+            differing += library_walk(size) != sheets;
+            double middle = now();
+            differing += second_walk(size) != sheets;
+            library[r] = (middle - start) / sheets;
+            second[r] = (now() - middle) / sheets;
+        }
+        printf("%4d sheets, %7d bytes: library %6.2f us a sheet, second %6.2f us\n", sheets, size, median(library) / 1000,
+               median(second) / 1000);
     }
     return differing;
 }
@@ -121,10 +130,10 @@ static int measure_all(void)
     printf("median of %d rounds; the ratio is library over second, in the same round\n", ROUNDS);
     for (int w = 0; w < WORKS; w++)
         measure(&works[w]);
-    printf("\nthe library, by the number of calls\n");
+    printf("\nthe library, by the number of calls; median of %d\n", ROUNDS);
     for (int w = 0; w < WORKS; w++)
         measure_growth(&works[w]);
-    printf("\na file of sheets, read from the last to the first\n");
+    printf("\na file of sheets, read from the last to the first; median of %d\n", ROUNDS);
     return measure_files() != 0;
 }
 

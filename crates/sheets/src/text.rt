@@ -1,10 +1,9 @@
-// Texts: where a byte stands, the same bytes, and which part of a text is the same.
+// Texts: where a byte stands, the same bytes, and bytes that are written.
 ghost use mathlib.Core.Path.{_≡_};
 ghost use Prim.Native.Nat.{_≤_, _+_};
 ghost use lib.ListN.{length};
 ghost use lib.Seq.{sets};
-ghost use Rattle.sheets.specs.Text.{indexOf, sameBytes, partsEnded};
-ghost use Rattle.sheets.specs.List.{positionIn};
+ghost use Rattle.sheets.specs.Text.{indexOf, sameBytes};
 
 // How many bytes stand before the first byte `b`: all, where there is none.
 pub fn find(bytes: &[u8], b: u8) -> usize
@@ -35,27 +34,6 @@ pub(crate) fn same(a: &[u8], b: &[u8]) -> bool
         i += 1;
     }
     true
-}
-
-// How many of the parts that end with the byte `end` stand before the first that is `name`: all, where there is none.
-pub(crate) fn position(name: &[u8], text: &[u8], end: u8) -> usize
-    ensures { λ r. ⌜ r ≡ positionIn (now (name .entry)) (partsEnded end (now (text .entry))) ⌝ }
-{
-    let mut k: usize = 0;
-    let mut at: usize = 0;
-    while at < text.len() {
-        let n = find(&text[at..], end);
-        let stop = at + n;
-        if stop == text.len() {
-            return k;
-        }
-        if same(name, &text[at..stop]) {
-            return k;
-        }
-        k += 1;
-        at = stop + 1;
-    }
-    k
 }
 
 // Writes bytes from `at` on, and gives the place behind them.
