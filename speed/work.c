@@ -7,8 +7,6 @@
 #include "random_contents.h"
 #include "sheet.h"
 
-#include <stdio.h>
-#include <stdlib.h>
 #include <string.h>
 
 enum { MOST_TURNED = 9, MOST_SHEET = 1024 };
