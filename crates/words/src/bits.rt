@@ -3,7 +3,7 @@ ghost use mathlib.Core.Path.{_≡_};
 ghost use mathlib.Core.Bool.{true, _&&_};
 ghost use Prim.Native.Nat.{_+_, _-_, _%_, _^_, _≤_, _<_, min};
 ghost use lib.IntN.{pos, negsuc};
-ghost use lib.Dec.{leb, ltb};
+ghost use lib.Dec.{eqb, leb, ltb};
 ghost use lib.ListN.{length};
 ghost use lib.Seq.{sets};
 ghost use lib.Signed.{mag};
@@ -12,10 +12,26 @@ use super::refusal::Answer;
 use super::refusal::LENGTH;
 use super::refusal::refuse;
 
+// No byte is over 1. The pass does not end early, so that the compiler can take many bytes at a time.
+fn are_bits(bytes: &[u8]) -> bool
+    ensures { λ r. ⌜ r ≡ eqb (firstNotBit (now (bytes .entry))) (length (now (bytes .entry))) ⌝ }
+{
+    let mut seen: u8 = 0;
+    let mut i: usize = 0;
+    while i < bytes.len() {
+        seen = seen | bytes[i];
+        i += 1;
+    }
+    seen <= 1
+}
+
 // The index of the first byte that is neither 0 nor 1, or the length.
 pub fn first_not_bit(bytes: &[u8]) -> usize
     ensures { λ r. ⌜ r ≡ firstNotBit (now (bytes .entry)) ⌝ }
 {
+    if are_bits(bytes) {
+        return bytes.len();
+    }
     let mut i: usize = 0;
     while i < bytes.len() {
         if 1 < bytes[i] {

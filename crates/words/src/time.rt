@@ -1,9 +1,8 @@
 // The time word.
 ghost use mathlib.Core.Path.{_≡_};
-ghost use Prim.Native.Nat.{_-_, _^_, _<_};
-ghost use lib.Bits.{bitXor};
+ghost use Prim.Native.Nat.{_^_, _<_};
 ghost use lib.ListN.{length};
-ghost use Rattle.words.specs.Bits.{valueOf, bitsOf};
+ghost use Rattle.words.specs.Bits.{bitsOf};
 ghost use Rattle.words.specs.Time.{oneShift, timeWord, timeAnswer, timeBytes, noTime, nearestTime, timeRead};
 use super::bits::first_not_bit;
 use super::bits::take_number;
@@ -72,7 +71,8 @@ pub fn write_time(out: &mut [u8], toi: u16) -> Answer
 
 // ---- reading: words are packed into a number, the first symbol the most significant
 
-// The words of 1, 3, 7 and so on to 511.
+// What turns the word of `toi - 1` into that of `toi` is the word of the bits in which the two differ, which are the lowest that is set and
+// those below it: the words of 1, 3, 7 and so on to 511.
 const TURNS: [u64; 9] = [
     0x00F3A905B4BE3,
     0x01E7520B697C6,
@@ -84,16 +84,6 @@ const TURNS: [u64; 9] = [
     0x7FAE98FC9395E,
     0x805167036C6A1,
 ];
-
-// What turns the word of `toi - 1` into that of `toi`: the word of the bits in which the two differ, which are the lowest that
-// is set and those below it.
-fn turn(toi: u16) -> u64
-    requires { ⌜ (0 < toi) × (toi < 2 ^ 9) ⌝ }
-    ensures { λ r. ⌜ r ≡ valueOf (timeWord (bitXor (toi - 1) toi)) ⌝ }
-{
-    let k = u16::trailing_zeros(toi) as usize;
-    TURNS[k]
-}
 
 // A refusal, with zeros beside it.
 pub fn no_time(number: u8, place: usize) -> Time
@@ -111,6 +101,7 @@ fn nearest_time(symbols: u64) -> Time
     requires { ⌜ symbols < 2 ^ 52 ⌝ }
     ensures { λ r. ⌜ r ≡ nearestTime 400 0 (bitsOf 52 symbols) ⌝ }
 {
+    let turns = TURNS;
     let mut word: u64 = 0;
     let mut toi: u16 = 0;
     while toi < 400 {
@@ -123,7 +114,8 @@ fn nearest_time(symbols: u64) -> Time
             };
         }
         toi += 1;
-        word = word ^ turn(toi);
+        let k = u16::trailing_zeros(toi) as usize;
+        word = word ^ turns[k];
     }
     no_time(TIME, 0)
 }

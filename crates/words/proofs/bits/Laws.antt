@@ -7,7 +7,8 @@ use Prim.Native.Nat.{ℕ, zero, suc, _+_, _-_, _*_, _/_, _%_, _^_, _≤_, _<_, m
 use native.Mathlib.Nat.{zero-min, min-zero, suc-min-suc, lt-of-lt-of-le, add-zero}
 use native.Mathlib.Numerals.{add-one}
 use native.Mathlib.Omega.{arith}
-use lib.Dec.{lit<}
+use lib.Bits.{bitOr, or-lt, or-add-and, and-le-l, and-le-r}
+use lib.Dec.{lit<, eqb, leb}
 use lib.IntN.{ℤ, pos, negsuc}
 use lib.ListN.{length, getD, take, drop, set, drop-of-length-le, length-drop, length-take}
 use lib.Pow.{pow-mono}
@@ -16,7 +17,7 @@ use lib.Signed.{mag, ltZ}
 use mir.Syntax.{w64}
 use mir.Val.{SFits, toZ, ofZ}
 use mir.ValLaws.{toZ-ofZ}
-use borrow.Author.Tests.{lt-ltb, le-ltb, ltb-true}
+use borrow.Author.Tests.{lt-ltb, le-ltb, ltb-true, leb-true, leb-false, eq-eqb, ne-eqb}
 use Rattle.words.specs.Bits.{firstNotBit, valueOf, bitsOf, signedOf, bitsAt}
 use Rattle.words.specs.Laws.Digits.{value-snoc, length-bits, bits-snoc}
 use Rattle.words.specs.Laws.Signs.{signed-mag}
@@ -42,6 +43,40 @@ no-bit-here l i h b =
 pub no-more : (l : List ℕ) (i : ℕ) → length l ≤ i → i + firstNotBit (drop i l) ≡ i
 unfolding firstNotBit
 no-more l i h = ap (λ (x : List ℕ). i + firstNotBit x) (drop-of-length-le l h) ∙ omega arith
+
+-- ---- all bytes together, one laid over the other
+
+-- where what was seen is at most 1, the first byte that is no bit is the first one of what is left; else it was passed
+pub record Seen (l : List ℕ) (seen i : ℕ) : Type 0 where
+  pub none : seen ≤ 1 → i + firstNotBit (drop i l) ≡ firstNotBit l
+  pub some : 1 < seen → firstNotBit l < i
+
+or-low : (a b : ℕ) → bitOr a b ≤ 1 → (a ≤ 1) × (b ≤ 1)
+or-low a b h = (omega (arith, or-add-and a b, and-le-r a b), omega (arith, or-add-and a b, and-le-l a b))
+
+pub seen-next : (l : List ℕ) (seen i : ℕ) → i < length l → Seen l seen i → Seen l (bitOr seen (getD l i 0)) (i + 1)
+seen-next l seen i h s =
+    record {
+      none = λ low. let both = or-low seen b low in sym (bit-here l i h (both .1)) ∙ s .none (both .0);
+      some = λ high. go (leb seen 1) (leb b 1) refl refl high;
+    }
+  where
+    b : ℕ
+    b = getD l i 0
+
+    go : (t u : Bool) → leb seen 1 ≡ t → leb b 1 ≡ u → 1 < bitOr seen b → firstNotBit l < i + 1
+    go true true e f high =
+        absurd (omega (arith, or-lt 1 seen b (omega (arith, leb-true seen 1 e)) (omega (arith, leb-true b 1 f))))
+    go true false e f high = omega (arith, no-bit-here l i h (leb-false b 1 f), s .none (leb-true seen 1 e))
+    go false u e f high = omega (arith, s .some (leb-false seen 1 e))
+
+pub seen-all : (l : List ℕ) (seen i : ℕ) → i ≡ length l → Seen l seen i → leb seen 1 ≡ eqb (firstNotBit l) (length l)
+seen-all l seen i h s = go (leb seen 1) refl
+  where
+    go : (t : Bool) → leb seen 1 ≡ t → leb seen 1 ≡ eqb (firstNotBit l) (length l)
+    go true e =
+        e ∙ sym (eq-eqb (firstNotBit l) (length l) (omega (arith, no-more l i (omega arith), s .none (leb-true seen 1 e))))
+    go false e = e ∙ sym (ne-eqb (firstNotBit l) (length l) (λ q. omega (arith, s .some (leb-false seen 1 e))))
 
 -- ---- one more bit read
 

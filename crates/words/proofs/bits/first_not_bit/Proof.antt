@@ -4,6 +4,7 @@ use mathlib.Core.Path.{_≡_, sym, _∙_}
 use Prim.Native.Nat.{_+_, _-_, _≤_}
 use native.Mathlib.Omega.{arith}
 use lib.ListN.{length, drop}
+use borrow.Author.Tests.{eqb-true}
 use Rattle.words.specs.Bits.{firstNotBit}
 use Rattle.words.proofs.bits.Laws.{bit-here, no-bit-here, no-more}
 use borrow.Author.Needs.{needs}
@@ -16,16 +17,25 @@ Inv-loop bytes i₀ i = (i ≤ length bytes) × (i + firstNotBit (drop i bytes) 
 abbrev μ-loop : tie.MeasureT-loop
 μ-loop bytes i₀ i = length bytes - i
 
-loop-holds : tie.Need-loop-holds Inv-loop μ-loop
-loop-holds c = search needs
-
-shared-slice-read-if1 : tie.Need-shared-slice-read-if1 Inv-loop μ-loop
-shared-slice-read-if1 c = search needs
+are-bits-requires : tie.Need-are-bits-requires Inv-loop μ-loop
+are-bits-requires c κs = search needs
 
 returns : tie.Need-returns Inv-loop μ-loop
 returns c =
-    sym (no-bit-here (c .before .before .before .before .args .bytes .now) (c .before .before .before .loop .i) (c .before .before .loop-test .taken) (c .if1 .taken))
-    ∙ c .before .before .before .loop .inv .1
+    let bytes = c .before .before .before .args .bytes .now in
+    sym (eqb-true (firstNotBit bytes) (length bytes) (sym (c .before .are-bits .ensures) ∙ c .if1 .taken))
+
+loop-holds : tie.Need-loop-holds Inv-loop μ-loop
+loop-holds c = search needs
+
+shared-slice-read-if2 : tie.Need-shared-slice-read-if2 Inv-loop μ-loop
+shared-slice-read-if2 c = search needs
+
+returns-2 : tie.Need-returns-2 Inv-loop μ-loop
+returns-2 c =
+    let loop = c .before .before .before .loop in
+    let bytes = c .before .before .before .before .before .before .before .args .bytes .now in
+    sym (no-bit-here bytes (loop .i) (c .before .before .loop-test .taken) (c .if2 .taken)) ∙ loop .inv .1
 
 add-i : tie.Need-add-i Inv-loop μ-loop
 add-i c = search needs
@@ -34,14 +44,15 @@ loop-less : tie.Need-loop-less Inv-loop μ-loop
 loop-less c = search needs
 
 loop-again : tie.Need-loop-again Inv-loop μ-loop
-loop-again c = (
-  omega arith,
-  sym (bit-here (c .before .before .before .before .args .bytes .now) (c .before .before .before .loop .i) (c .before .before .loop-test .taken) (c .if1 .left))
-      ∙ c .before .before .before .loop .inv .1,
-)
+loop-again c =
+    let loop = c .before .before .before .loop in
+    let bytes = c .before .before .before .before .before .before .before .args .bytes .now in
+    (omega arith, sym (bit-here bytes (loop .i) (c .before .before .loop-test .taken) (c .if2 .left)) ∙ loop .inv .1)
 
-returns-2 : tie.Need-returns-2 Inv-loop μ-loop
-returns-2 c = sym (no-more (c .before .before .args .bytes .now) (c .before .loop .i) (c .loop-test .left)) ∙ c .before .loop .inv .1
+returns-3 : tie.Need-returns-3 Inv-loop μ-loop
+returns-3 c =
+    let loop = c .before .loop in
+    sym (no-more (c .before .before .before .before .before .args .bytes .now) (loop .i) (c .loop-test .left)) ∙ loop .inv .1
 
 pub first-not-bit-spec : {M : Type 1} → statement M
 first-not-bit-spec =
@@ -49,10 +60,12 @@ first-not-bit-spec =
     (tie.spec
     Inv-loop
     μ-loop
-    loop-holds
-    shared-slice-read-if1
+    are-bits-requires
     returns
+    loop-holds
+    shared-slice-read-if2
+    returns-2
     add-i
     loop-less
     loop-again
-    returns-2)
+    returns-3)
