@@ -1,10 +1,9 @@
 /* Calls every function of include/l1c.h out of the archive: what the library proves is proved there, and what is tried here is the border,
    that pointers and lengths arrive in the declared order, that numbers and places come back in their halves, and that a refusal leaves
    every lent element, and those beside it, as they were. Prints each result that differs, and exits with 1 where one does. */
+#include "expect.h"
 #include "l1c.h"
 
-#include <inttypes.h>
-#include <stdio.h>
 #include <string.h>
 
 enum { BESIDE = 8, OUT = 1024, WN = 1, ITOW = 2, HEALTH = 4, TOE = 6, PAGE_NUMBER_BIT = 13 };
@@ -25,18 +24,6 @@ static uint8_t *const page = lent.page + BESIDE;
 static uint8_t *const frame = lent.frame + BESIDE;
 static uint32_t *const time_read = lent.time + BESIDE;
 static uint8_t *const out = lent.out + BESIDE;
-
-static int differing = 0;
-static int tried = 0;
-
-static void expect(int holds, const char *what)
-{
-    tried++;
-    if (holds)
-        return;
-    differing++;
-    printf("differs: %s\n", what);
-}
 
 static void keep(void)
 {
@@ -94,14 +81,6 @@ static uint64_t read_2(void)
 static uint64_t read_3(void)
 {
     return l1c_read_subframe3(frame, L1C_FRAME_SYMBOLS, page, L1C_PAGE_BITS);
-}
-
-static int all_are(const uint8_t *symbols, int count, uint8_t symbol)
-{
-    for (int i = 0; i < count; i++)
-        if (symbols[i] != symbol)
-            return 0;
-    return 1;
 }
 
 /* A slice with one element less, for each slice that has a stated length. */
@@ -279,6 +258,5 @@ int main(void)
     try_reading();
     try_damage();
     try_sheets();
-    printf("embedding: %d of %d results as they must be\n", tried - differing, tried);
-    return differing != 0;
+    return tell_results("embedding");
 }

@@ -2,6 +2,7 @@
 #include "bits.h"
 #include "clock_terms.h"
 #include "crc.h"
+#include "expect.h"
 #include "frame.h"
 #include "page_record.h"
 #include "programs.h"
@@ -10,26 +11,6 @@
 #include <math.h>
 #include <stdio.h>
 #include <string.h>
-
-static int differing = 0;
-static int tried = 0;
-
-static void expect(int holds, const char *what)
-{
-    tried++;
-    if (holds)
-        return;
-    differing++;
-    printf("differs: %s\n", what);
-}
-
-static int all_are(const unsigned char *symbols, int count, unsigned char symbol)
-{
-    for (int i = 0; i < count; i++)
-        if (symbols[i] != symbol)
-            return 0;
-    return 1;
-}
 
 static void try_time_words(void)
 {
@@ -332,6 +313,5 @@ int main(int count, char **words)
     try_zero_sheet();
     try_small_sheets();
     try_programs(&codes);
-    printf("second program: %d of %d known results agree\n", tried - differing, tried);
-    return differing == 0 ? 0 : 1;
+    return tell_results("second program");
 }

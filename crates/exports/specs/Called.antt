@@ -1,9 +1,10 @@
--- THEOREMS: what a caller in another language relies on, said of what the calls return: a refusal leaves what is lent, a number that is no
--- time is refused, what is built is read, and what is written is read.
+-- THEOREMS: what a caller in another language relies on, said of what the calls return: with the stated lengths they answer as the library
+-- does, a refusal leaves what is lent, good contents and no others are built, what is built or written is read, and demand 3.
 -- Assumes nothing.
 use mathlib.Core.Path.{_≡_, refl, sym, ap, _∙_, subst}
-use mathlib.Core.Bool.{Bool, true, false, _&&_}
+use mathlib.Core.Bool.{Bool, true, false, _&&_, and-eq-true-iff}
 use mathlib.Core.List.{List, [], _∷_}
+use mathlib.Core.Logic.{_↔_}
 use Prim.Native.Nat.{ℕ, _/_, _≤_, _<_}
 use native.Mathlib.Omega.{arith}
 use lib.Dec.{eqb, leb, ltb}
@@ -12,18 +13,25 @@ use lib.ListN.{length, getD, drop, take, length-drop, length-take}
 use borrow.Author.Tests.{eqb-true, eq-eqb, leb-true, lt-ltb}
 use Rattle.words.specs.Bits.{IsBits, firstNotBit}
 use Rattle.words.specs.Refusal.{LENGTH, TIME, refusedAt, doneIf, leftBy}
-use Rattle.words.specs.Time.{LAST-TOI}
+use Rattle.words.specs.Sums.{weight}
+use Rattle.words.specs.Time.{LAST-TOI, timeIs}
+use Rattle.words.specs.declared.time.Time.{Time}
 use Rattle.words.specs.Unchanged.{Refuses, refused-by-answer}
 use Rattle.words.specs.Laws.Digits.{bits-none}
-use Rattle.words.specs.Laws.Turns.{both-done, test-done}
+use Rattle.words.specs.Laws.Turns.{both-done, test-done, judged-done}
 use Rattle.words.specs.declared.refusal.Answer.{Answer}
 use Rattle.words.specs.declared.refusal.Answer.the-variants.{Done, Refused}
 use Rattle.fields.specs.Subframe2.{COUNTS-2}
 use Rattle.fields.specs.Pages.{PAGE-BITS}
-use Rattle.frames.specs.Frame.{Contents, FRAME, frameOf}
-use Rattle.frames.specs.Build.{buildAnswer}
+use Rattle.tables.specs.declared.matrix.Subframe.the-variants.{Two, Three}
+use Rattle.frames.specs.Frame.{Contents, GoodContents, FRAME, frameOf, IsFrame, timeIn, dataIn}
+use Rattle.frames.specs.Build.{contentsOf, buildLengths, contentsAnswer, buildAnswer}
 use Rattle.frames.specs.Read.{frameIs, frameRead, timeAlone, subframe2Alone, subframe3Alone}
-use Rattle.frames.specs.Building.{build-exactly, built-read}
+use Rattle.frames.specs.Building.{build-exactly}
+use Rattle.frames.specs.Built.{built-right}
+use Rattle.frames.specs.Reading.{read-built}
+use Rattle.frames.specs.Turned.{FrameFlags, turned, SomeTurned, NamedDamage}
+use Rattle.frames.specs.Damage.{time-borne, noticed-2, noticed-3}
 use Rattle.frames.specs.declared.read.Frame.{Frame}
 use Rattle.sheets.specs.List.{NUMBERS}
 use Rattle.sheets.specs.Sheet.{sheetIs, sheetRead}
@@ -34,6 +42,36 @@ use Rattle.exports.specs.Code.{HALF, codeOf, Reports}
 use Rattle.exports.specs.Calls.{lentAnswer, numbersLeft, toiOf, contentsGiven, buildCall, buildCallFrame, readCall, readCallNumbers, readCallPage, timeCall, timeCallTime, subframe2Call, subframe2CallCounts, subframe3Call, subframe3CallPage, sheetCall, sheetCallNumbers}
 use Rattle.exports.specs.Told.{build-told, read-told, time-told, subframe2-told, subframe3-told, sheet-told, written-told}
 use Rattle.exports.specs.Laws.Sheets.{written-answer, written-few}
+
+-- ---- the stated lengths
+
+as-stated : (lengths : Bool) (a : Answer) → lengths ≡ true → lentAnswer lengths a ≡ a
+as-stated lengths a e = ap (λ (t : Bool). lentAnswer t a) e
+
+-- With 34 numbers and 250 page bits lent, l1c_read answers what reading the frame does.
+pub read-as : (f : List ℕ) (zs : List ℤ) (page : List ℕ) → length zs ≡ NUMBERS → length page ≡ PAGE-BITS
+    → readCall f zs page ≡ frameRead f .answer
+read-as f zs page many long =
+    as-stated (eqb (length zs) NUMBERS && eqb (length page) PAGE-BITS) (frameRead f .answer)
+    (rw (eq-eqb (length zs) NUMBERS many, eq-eqb (length page) PAGE-BITS long) refl)
+
+-- With two numbers lent, l1c_read_time answers what reading the time alone does.
+pub time-as : (f time : List ℕ) → length time ≡ 2 → timeCall f time ≡ timeAlone f .answer
+time-as f time two = as-stated (eqb (length time) 2) (timeAlone f .answer) (eq-eqb (length time) 2 two)
+
+-- With 33 counts lent, l1c_read_subframe2 answers what reading subframe 2 alone does.
+pub subframe2-as : (f : List ℕ) (zs : List ℤ) → length zs ≡ COUNTS-2 → subframe2Call f zs ≡ subframe2Alone f .answer
+subframe2-as f zs many = as-stated (eqb (length zs) COUNTS-2) (subframe2Alone f .answer) (eq-eqb (length zs) COUNTS-2 many)
+
+-- With 250 page bits lent, l1c_read_subframe3 answers what reading subframe 3 alone does.
+pub subframe3-as : (f page : List ℕ) → length page ≡ PAGE-BITS → subframe3Call f page ≡ subframe3Alone f .answer
+subframe3-as f page long = as-stated (eqb (length page) PAGE-BITS) (subframe3Alone f .answer) (eq-eqb (length page) PAGE-BITS long)
+
+-- With fewer than 2^32 bytes and 34 numbers lent, l1c_read_sheet answers what reading the sheet does.
+pub sheet-as : (s : List ℕ) (zs : List ℤ) → length s < HALF → length zs ≡ NUMBERS → sheetCall s zs ≡ sheetRead s .answer
+sheet-as s zs short many =
+    as-stated (ltb (length s) HALF && eqb (length zs) NUMBERS) (sheetRead s .answer)
+    (rw (lt-ltb (length s) HALF short, eq-eqb (length zs) NUMBERS many) refl)
 
 -- ---- a refusal
 
@@ -124,6 +162,63 @@ numbers-back : (zs : List ℤ) → length zs ≡ NUMBERS → toiOf (getD zs 0 (p
 numbers-back [] many h = absurd (omega arith)
 numbers-back (z ∷ zs) many h = ap (λ (x : ℤ). x ∷ zs) (sym (toi-is z h))
 
+-- what was built: good contents, their numbers, and their frame
+module _ (zs : List ℤ) (page out : List ℕ) (e : buildCall zs page out ≡ Done) where
+  abbrev given : Contents
+  given = contentsGiven zs page
+
+  answers : (doneIf (eqb (length zs) NUMBERS) LENGTH 0 ≡ Done) × (buildAnswer given out ≡ Done)
+  answers = both-done (doneIf (eqb (length zs) NUMBERS) LENGTH 0) (buildAnswer given out) e
+
+  built-good : GoodContents given
+  built-good = build-exactly given out .0 (answers .1) .0
+
+  built-frame : buildCallFrame zs page out ≡ frameOf given
+  built-frame = ap (λ (a : Answer). leftBy a (frameOf given) out) e
+
+  built-numbers : pos (given .toi) ∷ given .counts ≡ zs
+  built-numbers =
+      numbers-back zs (eqb-true (length zs) NUMBERS (test-done (eqb (length zs) NUMBERS) LENGTH 0 (answers .0))) (built-good .time)
+
+-- Contents are built exactly if they are good and 1800 bytes are lent.
+pub built-exactly : (c : Contents) (out : List ℕ)
+    → (buildCall (pos (c .toi) ∷ c .counts) (c .page) out ≡ Done) ↔ (GoodContents c × (length out ≡ FRAME))
+built-exactly c out = (so, back)
+  where
+    zs : List ℤ
+    zs = pos (c .toi) ∷ c .counts
+
+    so : buildCall zs (c .page) out ≡ Done → GoodContents c × (length out ≡ FRAME)
+    so e =
+        let d = answers zs (c .page) out e .1 in
+        let same : contentsGiven zs (c .page) ≡ c =
+        ap (λ (t : ℕ). contentsOf t (c .counts) (c .page)) (omega (arith, built-good zs (c .page) out e .time)) in
+        build-exactly c out .0 (subst (λ (x : Contents). buildAnswer x out ≡ Done) same d)
+
+    back : GoodContents c × (length out ≡ FRAME) → buildCall zs (c .page) out ≡ Done
+    back h =
+        let d = build-exactly c out .1 h in
+        let same : c ≡ contentsGiven zs (c .page) =
+        ap (λ (t : ℕ). contentsOf t (c .counts) (c .page)) (omega (arith, h .0 .time)) in
+        let many : length (c .counts) ≡ COUNTS-2 =
+        eqb-true (length (c .counts)) COUNTS-2
+        (and-eq-true-iff (eqb (length (c .counts)) COUNTS-2) (eqb (length (c .page)) PAGE-BITS && eqb (length out) FRAME) .0
+        (judged-done (buildLengths c out) (eqb (firstNotBit (c .page)) (length (c .page))) (firstNotBit (c .page)) (contentsAnswer c) d .0) .0)
+        in
+        as-stated (eqb (length zs) NUMBERS) (buildAnswer (contentsGiven zs (c .page)) out) (eq-eqb (length zs) NUMBERS (omega arith))
+        ∙ subst (λ (x : Contents). buildAnswer x out ≡ Done) same d
+
+-- Numbers that are built are those of good contents, and what l1c_build leaves is the frame of these by IS-GPS-800.
+pub built-is-right : (zs : List ℤ) (page out : List ℕ) → buildCall zs page out ≡ Done
+    → GoodContents (contentsGiven zs page)
+    × (pos (contentsGiven zs page .toi) ∷ contentsGiven zs page .counts ≡ zs)
+    × IsFrame (contentsGiven zs page) (buildCallFrame zs page out)
+built-is-right zs page out e = (
+  built-good zs page out e,
+  built-numbers zs page out e,
+  subst (IsFrame (contentsGiven zs page)) (sym (built-frame zs page out e)) (built-right (contentsGiven zs page) (built-good zs page out e)),
+)
+
 -- What l1c_build built, l1c_read reads into any memory of the right lengths: the same numbers, the same page, none corrected.
 pub built-is-read : (zs others : List ℤ) (page bits out : List ℕ) → buildCall zs page out ≡ Done → length others ≡ NUMBERS
     → length bits ≡ PAGE-BITS
@@ -134,30 +229,19 @@ pub built-is-read : (zs others : List ℤ) (page bits out : List ℕ) → buildC
 built-is-read zs others page bits out e many long =
     (read-done, ap (λ (x : Frame). x .corrected) found, numbers, ap (λ (a : Answer). leftBy a (frameRead f .page) bits) read-done ∙ ap (λ (x : Frame). x .page) found)
   where
-    c : Contents
-    c = contentsGiven zs page
-
     f : List ℕ
     f = buildCallFrame zs page out
 
-    parts : (doneIf (eqb (length zs) NUMBERS) LENGTH 0 ≡ Done) × (buildAnswer c out ≡ Done)
-    parts = both-done (doneIf (eqb (length zs) NUMBERS) LENGTH 0) (buildAnswer c out) e
-
-    found : frameRead f ≡ frameIs c 0
-    found = ap frameRead (ap (λ (a : Answer). leftBy a (frameOf c) out) (e ∙ sym (parts .1))) ∙ built-read c out (parts .1)
-
-    lengths : (eqb (length others) NUMBERS && eqb (length bits) PAGE-BITS) ≡ true
-    lengths = rw (eq-eqb (length others) NUMBERS many, eq-eqb (length bits) PAGE-BITS long) refl
+    found : frameRead f ≡ frameIs (contentsGiven zs page) 0
+    found = ap frameRead (built-frame zs page out e) ∙ read-built (contentsGiven zs page) (built-good zs page out e)
 
     read-done : readCall f others bits ≡ Done
-    read-done = ap (λ (t : Bool). lentAnswer t (frameRead f .answer)) lengths ∙ ap (λ (x : Frame). x .answer) found
+    read-done = read-as f others bits many long ∙ ap (λ (x : Frame). x .answer) found
 
     numbers : readCallNumbers f others bits ≡ zs
     numbers =
         ap (λ (a : Answer). numbersLeft a (pos (frameRead f .toi) ∷ frameRead f .counts) others) read-done
-        ∙ ap (λ (x : Frame). pos (x .toi) ∷ x .counts) found
-        ∙ numbers-back zs (eqb-true (length zs) NUMBERS (test-done (eqb (length zs) NUMBERS) LENGTH 0 (parts .0)))
-        (build-exactly c out .0 (parts .1) .0 .time)
+        ∙ ap (λ (x : Frame). pos (x .toi) ∷ x .counts) found ∙ built-numbers zs page out e
 
 -- What l1c_write_sheet wrote, l1c_read_sheet reads into any 34 numbers: the same numbers, and nothing stands before the sheet.
 pub written-is-read : (zs others : List ℤ) (out : List ℕ) → sheetWritten zs out .answer ≡ Done → length others ≡ NUMBERS
@@ -179,8 +263,54 @@ written-is-read zs others out e many = (
     short : length s < HALF
     short = omega (arith, length-take (sheetWritten zs out .size) (writtenBytes zs out), written-few zs out e)
 
-    lengths : (ltb (length s) HALF && eqb (length others) NUMBERS) ≡ true
-    lengths = rw (lt-ltb (length s) HALF short, eq-eqb (length others) NUMBERS many) refl
-
     read-done : sheetCall s others ≡ Done
-    read-done = ap (λ (t : Bool). lentAnswer t (sheetRead s .answer)) lengths ∙ ap (λ (x : Sheet). x .answer) found
+    read-done = sheet-as s others short many ∙ ap (λ (x : Sheet). x .answer) found
+
+-- ---- demand 3, of any frame that l1c_build built and any of its symbols turned
+
+-- If at most nine of the first 52 turn, l1c_read_time hands back the time sent, and how many turned.
+pub time-is-sent : (zs : List ℤ) (page out t time : List ℕ) → buildCall zs page out ≡ Done → FrameFlags t → weight (timeIn t) ≤ 9
+    → length time ≡ 2
+    → (timeCall (turned (buildCallFrame zs page out) t) time ≡ Done)
+    × (timeCallTime (turned (buildCallFrame zs page out) t) time ≡ toiOf (getD zs 0 (pos 0)) ∷ weight (timeIn t) ∷ [])
+time-is-sent zs page out t time e flags few two = (
+  done,
+  ap (λ (a : Answer). leftBy a (timeAlone f .toi ∷ timeAlone f .corrected ∷ []) time) done
+      ∙ ap (λ (x : Time). x .toi ∷ x .corrected ∷ []) found,
+)
+  where
+    f : List ℕ
+    f = turned (buildCallFrame zs page out) t
+
+    found : timeAlone f ≡ timeIs (toiOf (getD zs 0 (pos 0))) (weight (timeIn t))
+    found =
+        ap (λ (x : List ℕ). timeAlone (turned x t)) (built-frame zs page out e)
+        ∙ time-borne (contentsGiven zs page) t (built-good zs page out e) flags few
+
+    done : timeCall f time ≡ Done
+    done = time-as f time two ∙ ap (λ (x : Time). x .answer) found
+
+lent-refuses : (lengths : Bool) (a : Answer) → Refuses a → Refuses (lentAnswer lengths a)
+lent-refuses true a h = h
+lent-refuses false a h = λ e. omega arith
+
+reported : (a : Answer) → Reports (codeOf a 0) a 0 → Refuses a → IsRefused (codeOf a 0)
+reported a told h e = h (sym (told .number) ∙ e)
+
+-- If any symbol of subframe 2 turns, and those of its data symbols as demand 3 names, l1c_read_subframe2 refuses.
+pub noticed-by-2 : (zs counts : List ℤ) (page out t : List ℕ) → buildCall zs page out ≡ Done → FrameFlags t → SomeTurned Two t
+    → NamedDamage (dataIn Two t) → IsRefused (codeOf (subframe2Call (turned (buildCallFrame zs page out) t) counts) 0)
+noticed-by-2 zs counts page out t e flags some how =
+    let f = turned (buildCallFrame zs page out) t in
+    reported (subframe2Call f counts) (subframe2-told f counts) (lent-refuses (eqb (length counts) COUNTS-2) (subframe2Alone f .answer)
+    (subst (λ (x : List ℕ). Refuses (subframe2Alone (turned x t) .answer)) (sym (built-frame zs page out e))
+    (noticed-2 (contentsGiven zs page) t (built-good zs page out e) flags some how)))
+
+-- The same of subframe 3 and l1c_read_subframe3.
+pub noticed-by-3 : (zs : List ℤ) (page bits out t : List ℕ) → buildCall zs page out ≡ Done → FrameFlags t → SomeTurned Three t
+    → NamedDamage (dataIn Three t) → IsRefused (codeOf (subframe3Call (turned (buildCallFrame zs page out) t) bits) 0)
+noticed-by-3 zs page bits out t e flags some how =
+    let f = turned (buildCallFrame zs page out) t in
+    reported (subframe3Call f bits) (subframe3-told f bits) (lent-refuses (eqb (length bits) PAGE-BITS) (subframe3Alone f .answer)
+    (subst (λ (x : List ℕ). Refuses (subframe3Alone (turned x t) .answer)) (sym (built-frame zs page out e))
+    (noticed-3 (contentsGiven zs page) t (built-good zs page out e) flags some how)))
