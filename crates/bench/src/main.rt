@@ -1,4 +1,6 @@
 // The bench program: reads a page line and a sheet from standard input, and prints the frame or the refusal.
+#![tactic(auto)]
+
 use programs::building::print_frame;
 
 // Of input over 8192 bytes, one byte more shows that it is.

@@ -31,7 +31,7 @@ const AF1_STEP: u64 = 48;
 const AF2_STEP: u64 = 60;
 
 // The clock terms.
-#[derive(Drop)]
+#[derive(Clone, Copy)]
 pub struct Clock {
     pub af0: f64,
     pub af1: f64,
@@ -39,14 +39,14 @@ pub struct Clock {
 }
 
 // What handing out counts gives: the clock terms, or a refusal with plus zeros beside it.
-#[derive(Drop)]
+#[derive(Clone, Copy)]
 pub struct ClockTaken {
     pub answer: Answer,
     pub clock: Clock,
 }
 
 // What taking clock terms back gives: the counts, or a refusal with zeros beside it.
-#[derive(Drop)]
+#[derive(Clone, Copy)]
 pub struct ClockCounts {
     pub answer: Answer,
     pub af0: i64,
@@ -55,7 +55,7 @@ pub struct ClockCounts {
 }
 
 // One floating number taken back: its count, or that it is the term of none.
-#[derive(Drop)]
+#[derive(Clone, Copy)]
 enum Count {
     Is(i64),
     Not,

@@ -10,7 +10,7 @@ const SIGN: u64 = 9223372036854775808;
 const INFINITE: u64 = 9218868437227405312;
 
 // The bits of three floating numbers.
-#[derive(Drop)]
+#[derive(Clone, Copy)]
 struct Terms {
     are_read: bool,
     af0: u64,
@@ -19,7 +19,7 @@ struct Terms {
 }
 
 // The bits of one of them.
-#[derive(Drop)]
+#[derive(Clone, Copy)]
 struct Term {
     is_read: bool,
     bits: u64,

@@ -1,5 +1,7 @@
 // Runs the cases that the second program made, one to a line of the input, through the library. It prints how many of each kind
 // agree, and the number of each line that does not.
+#![tactic(auto)]
+
 mod build_cases;
 mod bytes;
 mod cases;

@@ -3,7 +3,7 @@ use super::input::read_number;
 use words::refusal::Answer;
 
 // A refusal's number and place; zeros where nothing is refused.
-#[derive(Drop)]
+#[derive(Clone, Copy)]
 pub(crate) struct Told {
     pub(crate) number: usize,
     pub(crate) place: usize,

@@ -8,7 +8,7 @@ use sheets::walk::walk_back;
 use show::same_counts;
 
 // Whether the steps so far agree, and the place where the walk is told to go on.
-#[derive(Drop)]
+#[derive(Clone, Copy)]
 struct Walked {
     agree: bool,
     place: usize,

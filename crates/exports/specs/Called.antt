@@ -22,14 +22,16 @@ use Rattle.frames.specs.Build.{contents_of, build_lengths, contents_answer, buil
 use Rattle.frames.specs.Read.{frame_is, frame_read, time_alone, subframe2_alone, subframe3_alone}
 use Rattle.frames.specs.Building.{build_exactly}
 use Rattle.frames.specs.Built.{built_right}
-use Rattle.frames.specs.Reading.{read_built}
+use Rattle.frames.proofs.Reading.{read_built}
 use Rattle.frames.specs.Turned.{FrameFlags, turned, SomeTurned, NamedDamage}
-use Rattle.frames.specs.Damage.{time_borne, noticed_2, noticed_3}
+use Rattle.frames.specs.Damage.{time_borne}
+use Rattle.frames.proofs.Damage.{noticed_2, noticed_3}
 use Rattle.frames.specs.declared.read.Frame.{Frame}
 use Rattle.sheets.specs.List.{NUMBERS}
 use Rattle.sheets.specs.Sheet.{sheet_is, sheet_read}
 use Rattle.sheets.specs.Write.{sheet_written, written_bytes}
-use Rattle.sheets.specs.Writing.{write_unchanged, written_read}
+use Rattle.sheets.specs.Writing.{write_unchanged}
+use Rattle.sheets.proofs.Writing.{written_read}
 use Rattle.sheets.specs.declared.sheet.Sheet.{Sheet}
 use Rattle.exports.specs.Code.{HALF, code_of, Reports}
 use Rattle.exports.specs.Calls.{lent_answer, numbers_left, toi_of, contents_given, build_call, build_call_frame, read_call, read_call_numbers, read_call_page, time_call, time_call_time, subframe2_call, subframe2_call_counts, subframe3_call, subframe3_call_page, sheet_call, sheet_call_numbers}

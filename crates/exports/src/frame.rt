@@ -14,8 +14,7 @@ use words::bits::copy;
 use words::refusal::{Answer, LENGTH};
 
 // Builds the frame of 34 numbers, toi's first, and 250 page bits into 1800 bytes. Refused 1, 2 (page bits), 3, 6, 9.
-#[unsafe(no_mangle)]
-pub extern "C" fn l1c_build(contents: &[i64], page: &[u8], frame: &mut [u8]) -> u64
+pub fn l1c_build(contents: &[i64], page: &[u8], frame: &mut [u8]) -> u64
     ensures { (result ≡ code_of (build_call contents.now page.now frame.old) 0)
         × (frame.new ≡ build_call_frame contents.now page.now frame.old) }
 {
@@ -39,8 +38,7 @@ fn has_room(numbers: usize, page: usize) -> bool
 
 // Reads a frame into 34 numbers, toi's first, and 250 page bits, and says how many time symbols were corrected. Refused 1, 2, then 3, then
 // 4 5 6, then 7 8 9.
-#[unsafe(no_mangle)]
-pub extern "C" fn l1c_read(frame: &[u8], contents: &mut [i64], page: &mut [u8]) -> u64
+pub fn l1c_read(frame: &[u8], contents: &mut [i64], page: &mut [u8]) -> u64
     ensures { (result ≡ code_of (read_call frame.now contents.old page.old) (frame_read frame.now).corrected)
         × (contents.new ≡ read_call_numbers frame.now contents.old page.old)
         × (page.new ≡ read_call_page frame.now contents.old page.old) }
@@ -63,8 +61,7 @@ pub extern "C" fn l1c_read(frame: &[u8], contents: &mut [i64], page: &mut [u8]) 
 }
 
 // Reads the time alone: toi, then how many symbols were corrected. Refused 1, 2, then 3.
-#[unsafe(no_mangle)]
-pub extern "C" fn l1c_read_time(frame: &[u8], time: &mut [u32]) -> u64
+pub fn l1c_read_time(frame: &[u8], time: &mut [u32]) -> u64
     ensures { (result ≡ code_of (time_call frame.now time.old) 0)
         × (time.new ≡ time_call_time frame.now time.old) }
 {
@@ -84,8 +81,7 @@ pub extern "C" fn l1c_read_time(frame: &[u8], time: &mut [u32]) -> u64
 }
 
 // Reads the 33 counts of subframe 2 alone. Refused 1, 2, then 4 5 6.
-#[unsafe(no_mangle)]
-pub extern "C" fn l1c_read_subframe2(frame: &[u8], counts: &mut [i64]) -> u64
+pub fn l1c_read_subframe2(frame: &[u8], counts: &mut [i64]) -> u64
     ensures { (result ≡ code_of (subframe2_call frame.now counts.old) 0)
         × (counts.new ≡ subframe2_call_counts frame.now counts.old) }
 {
@@ -105,12 +101,12 @@ pub extern "C" fn l1c_read_subframe2(frame: &[u8], counts: &mut [i64]) -> u64
 }
 
 // Reads the 250 page bits of subframe 3 alone. Refused 1, 2, then 7 8 9.
-#[unsafe(no_mangle)]
-pub extern "C" fn l1c_read_subframe3(frame: &[u8], page: &mut [u8]) -> u64
+pub fn l1c_read_subframe3(frame: &[u8], page: &mut [u8]) -> u64
     ensures { (result ≡ code_of (subframe3_call frame.now page.old) 0)
         × (page.new ≡ subframe3_call_page frame.now page.old) }
 {
-    if page.len() != 250 {
+    let unfit = page.len() != 250;
+    if unfit {
         return refusal_code(LENGTH, 0);
     }
     let found = read_subframe3(frame);

@@ -1,4 +1,6 @@
 // The library for other programs: what include/l1c.h declares.
+#![tactic(auto)]
+
 mod code;
 pub mod frame;
 mod lent;

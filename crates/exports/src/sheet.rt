@@ -24,8 +24,7 @@ fn has_lengths(bytes: usize, numbers: usize) -> bool
 
 // Reads the sheet at the end of the bytes into 34 numbers, toi's first, and says how many bytes stand before it. Refused 1 (also for 2^32
 // bytes or more), 10, then line by line 11 12 13 14, then 15.
-#[unsafe(no_mangle)]
-pub extern "C" fn l1c_read_sheet(bytes: &[u8], contents: &mut [i64]) -> u64
+pub fn l1c_read_sheet(bytes: &[u8], contents: &mut [i64]) -> u64
     ensures { (result ≡ code_of (sheet_call bytes.now contents.old) (sheet_read bytes.now).before)
         × (contents.new ≡ sheet_call_numbers bytes.now contents.old) }
 {
@@ -45,8 +44,7 @@ pub extern "C" fn l1c_read_sheet(bytes: &[u8], contents: &mut [i64]) -> u64
 }
 
 // Writes the sheet of 34 numbers, toi's first, from the first lent byte on, and says its length. Refused 1, 3, 6, 16.
-#[unsafe(no_mangle)]
-pub extern "C" fn l1c_write_sheet(contents: &[i64], out: &mut [u8]) -> u64
+pub fn l1c_write_sheet(contents: &[i64], out: &mut [u8]) -> u64
     ensures { (result ≡ code_of (sheet_written contents.now out.old).answer (sheet_written contents.now out.old).size)
         × (out.new ≡ written_bytes contents.now out.old) }
 {

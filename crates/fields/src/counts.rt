@@ -22,7 +22,8 @@ fn is_within(field: Field, number: u64) -> bool
 pub fn in_range(field: Field, count: i64) -> bool
     ensures { result ≡ in_range field count }
 {
-    if count < 0 {
+    let below = count < 0;
+    if below {
         if field.signed {
             is_within(field, magnitude(count))
         } else {

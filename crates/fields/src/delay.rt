@@ -3,7 +3,7 @@ ghost use Rattle.std.specs.Prelude.{◌≡◌};
 ghost use Rattle.fields.specs.Delay.{delay_of};
 
 // What a count of tgd, iscp or iscd says: that no delay is available, or the delay.
-#[derive(Drop)]
+#[derive(Clone, Copy)]
 pub enum Delay {
     Absent,
     Is(i64),

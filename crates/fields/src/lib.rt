@@ -1,4 +1,6 @@
 // The fields that frames carry: those of subframe 2 and the pages of subframe 3.
+#![tactic(auto)]
+
 pub mod counts;
 pub mod delay;
 pub mod pages;

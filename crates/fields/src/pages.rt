@@ -16,6 +16,9 @@ const PAGE_BITS: usize = 250;
 
 const HEAD_BITS: usize = 14;
 
+// The last number of a page.
+const LAST_PAGE: u8 = 63;
+
 const BODY_BITS: usize = 236;
 
 // The page number's first bit, from 1.
@@ -62,7 +65,7 @@ pub const TEXT_PAGE: usize = 0;
 pub const TEXT: usize = 1;
 
 // What kind of record a page is: page 1, page 6, or bare bits.
-#[derive(Drop)]
+#[derive(Clone, Copy)]
 pub enum Kind {
     One,
     Six,
@@ -71,7 +74,7 @@ pub enum Kind {
 
 // A page: the counts of its fields, and the bits behind them that are carried as bits. A page 1 record uses 17 counts and 74 bits, a
 // page 6 record 30 counts, bare bits all 236 bits; what a kind does not use is zero when it is taken, and not looked at when it is put.
-#[derive(Drop)]
+#[derive(Clone, Copy)]
 pub struct Page {
     pub prn: u8,
     pub number: u8,
@@ -250,7 +253,7 @@ pub fn take_page(bits: &[u8]) -> Taken
 fn is_bare(number: u8) -> bool
     ensures { result ≡ is_own Bare number }
 {
-    if 63 < number {
+    if LAST_PAGE < number {
         return false;
     }
     if number == 1 {

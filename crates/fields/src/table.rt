@@ -5,7 +5,7 @@ ghost use Rattle.fields.specs.Table.{fields_in, no_field, bit_count};
 use super::rows::{page1_field, page6_field, subframe2_field};
 
 // A field: its width in bits, whether it has a sign, and its range. With a sign the counts go from -(most + 1) to most, and `least` is 0.
-#[derive(Drop)]
+#[derive(Clone, Copy)]
 pub struct Field {
     pub width: usize,
     pub signed: bool,
@@ -14,7 +14,7 @@ pub struct Field {
 }
 
 // The tables; a page that is carried as bits has no fields.
-#[derive(Drop)]
+#[derive(Clone, Copy)]
 pub enum Table {
     Subframe2,
     Page1,

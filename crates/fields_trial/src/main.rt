@@ -1,5 +1,7 @@
 // Calls every public function of `fields` and `clock` with good, empty, short, long and garbage-filled slices and with extreme numbers, and
 // prints a line for each: what is expected, and whether it is so.
+#![tactic(auto)]
+
 mod clock_of;
 mod counts;
 mod pages;

@@ -2,16 +2,14 @@
 -- bytes.
 -- Assumes nothing.
 use Rattle.std.specs.Prelude.{◌≡◌, List, ◌↔◌, ℕ, length}
-use Rattle.std.proofs.Common.{ap, ◌∙◌}
+use Rattle.std.proofs.Common.{ap}
 use Rattle.words.specs.Refusal.{left_by}
 use Rattle.words.specs.Unchanged.{Refuses, refused_by_answer}
 use Rattle.words.specs.declared.refusal.Answer.{Answer}
 use Rattle.words.specs.declared.refusal.Answer.TheVariants.{Done}
 use Rattle.frames.specs.Frame.{Contents, GoodContents, FRAME, IsFrame, frame_of}
-use Rattle.frames.specs.Read.{frame_is, frame_read}
 use Rattle.frames.specs.Build.{build_answer, build_bytes}
 use Rattle.frames.specs.Built.{built_right}
-use Rattle.frames.specs.Reading.{read_exactly, read_built}
 use Rattle.frames.specs.Due.{RefusesWith, BuildDue}
 use Rattle.frames.specs.Laws.Building.{good_done, done_good, build_due_refused, build_verdict}
 use Rattle.frames.specs.Laws.Due.{refused_by}
@@ -33,12 +31,3 @@ build_refused_exactly c out n p = refused_by (build_answer c out) (BuildDue c ou
 -- Where building is refused, the lent bytes are as they were.
 pub build_unchanged : (c : Contents) (out : List ℕ) → Refuses (build_answer c out) → build_bytes c out ≡ out
 build_unchanged c out h = refused_by_answer (build_answer c out) (frame_of c) out h
-
--- What is built is read: the same contents, and no symbol corrected.
-pub built_read : (c : Contents) (out : List ℕ) → build_answer c out ≡ Done → frame_read (build_bytes c out) ≡ frame_is c 0
-built_read c out e = ap frame_read (build_frame c out e).0 ∙ read_built c ((build_exactly c out).0 e).0
-
--- What was read is built again into any 1800 bytes.
-pub read_builds : (f : List ℕ) (c : Contents) (places : ℕ) (out : List ℕ) → frame_read f ≡ frame_is c places → length out ≡ FRAME
-    → build_answer c out ≡ Done
-read_builds f c places out e long = (build_exactly c out).1 (((read_exactly f c places).0 e).0, long)

@@ -1,4 +1,4 @@
--- THEOREMS: demand 3. Take any frame that is built and turn any of its symbols over.
+-- THEOREM: demand 3, the time. Take any frame that is built and turn any of its symbols over.
 -- Assumes nothing.
 use Rattle.std.specs.Prelude.{◌≡◌, List, ℕ, ◌≤◌}
 use Rattle.words.specs.Sums.{weight}
@@ -10,25 +10,9 @@ use Rattle.frames.specs.Frame.{Contents, GoodContents, time_in, data_in, frame_o
 use Rattle.frames.specs.Read.{time_alone, subframe2_alone, subframe3_alone, alone_answer}
 use Rattle.frames.specs.Turned.{FrameFlags, turned, SomeTurned, NamedDamage}
 use Rattle.frames.specs.Laws.Good.{good_bits}
-use Rattle.frames.specs.Laws.Turned.{time_read_lem, subframe_noticed}
+use Rattle.frames.specs.Laws.Turned.{time_read_lem}
 
 -- If at most nine of the first 52 turn, the time, read alone, is the time sent, with the number that turned.
 pub time_borne : (c : Contents) (t : List ℕ) → GoodContents c → FrameFlags t → weight (time_in t) ≤ 9
     → time_alone (turned (frame_of c) t) ≡ time_is c.toi (weight (time_in t))
 time_borne c t good flags few = time_read_lem c t (good_bits c good) flags good.time few
-
--- If any symbol of a subframe turns, and the turned ones among its data symbols are none, two, an odd number, or all within 24
--- neighbouring places of its order before interleaving, that subframe, read alone, is refused, whatever else is turned.
-pub noticed : (s : Subframe) (c : Contents) (t : List ℕ) → GoodContents c → FrameFlags t → SomeTurned s t → NamedDamage (data_in s t)
-    → Refuses (alone_answer s (turned (frame_of c) t))
-noticed s c t good flags some how = subframe_noticed c t (good_bits c good) flags s some how
-
--- So it is of subframe 2.
-pub noticed_2 : (c : Contents) (t : List ℕ) → GoodContents c → FrameFlags t → SomeTurned Two t → NamedDamage (data_in Two t)
-    → Refuses (subframe2_alone (turned (frame_of c) t)).answer
-noticed_2 c t good flags some how = noticed Two c t good flags some how
-
--- And of subframe 3.
-pub noticed_3 : (c : Contents) (t : List ℕ) → GoodContents c → FrameFlags t → SomeTurned Three t → NamedDamage (data_in Three t)
-    → Refuses (subframe3_alone (turned (frame_of c) t)).answer
-noticed_3 c t good flags some how = noticed Three c t good flags some how

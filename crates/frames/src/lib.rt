@@ -1,4 +1,6 @@
 // Whole frames: building them from contents, and reading them.
+#![tactic(auto)]
+
 mod block;
 pub mod build;
 pub mod read;

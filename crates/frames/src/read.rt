@@ -18,7 +18,7 @@ use words::refusal::{Answer, LENGTH, NOT_A_BIT, refuse};
 use words::time::{Time, no_time, read_time as read_word};
 
 // What reading a frame gives: its contents and how many time symbols were corrected, or a refusal with zeros beside it.
-#[derive(Drop)]
+#[derive(Clone, Copy)]
 pub struct Frame {
     pub answer: Answer,
     pub toi: u16,
@@ -28,7 +28,7 @@ pub struct Frame {
 }
 
 // What reading subframe 3 alone gives: the page bits, or a refusal with zeros beside it.
-#[derive(Drop)]
+#[derive(Clone, Copy)]
 pub struct PageBits {
     pub answer: Answer,
     pub page: [u8; 250],

@@ -1,5 +1,7 @@
 // Calls every public function of `frames` with good, empty, short, long and garbage-filled slices and with extreme numbers, and prints a
 // line for each: what is expected, and whether it is so.
+#![tactic(auto)]
+
 mod build;
 mod counts;
 mod read;

@@ -1,5 +1,7 @@
 // Runs the known results of document 01 through the library, and prints a line for each: document 01's words, what came out, what is
 // expected, and `ok` or `WRONG`, with ` | ` between them. The last line counts them.
+#![tactic(auto)]
+
 mod checks;
 mod counts;
 mod order;

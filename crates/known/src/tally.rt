@@ -2,7 +2,7 @@
 use super::text::Text;
 use std::num::wrapping_add_u64;
 
-#[derive(Drop)]
+#[derive(Clone, Copy)]
 pub(crate) struct Tally {
     all: u64,
     right: u64,

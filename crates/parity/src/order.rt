@@ -21,7 +21,7 @@ const COLUMNS: usize = 46;
 // ---- places
 
 // Where a symbol goes or comes from; 0 beside a refusal.
-#[derive(Drop)]
+#[derive(Clone, Copy)]
 pub struct Place {
     pub answer: Answer,
     pub index: usize,

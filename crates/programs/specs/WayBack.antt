@@ -1,25 +1,21 @@
 -- THEOREMS: the way back. What is printed for which frame; and that the bench program gives the frame back for it.
 -- Assumes nothing.
-use Rattle.std.specs.Prelude.{◌≡◌, refl, ◌↔◌, List, ℕ, ◌≤◌, get_or}
+use Rattle.std.specs.Prelude.{◌≡◌, ◌↔◌, List, ℕ, get_or}
 use Rattle.std.proofs.Common.{sym, ap, ap₂, ◌∙◌, subst, arith}
 use Rattle.words.specs.Refusal.{refused_at}
-use Rattle.words.specs.Sums.{differing}
 use Rattle.words.specs.Time.{time_read}
 use Rattle.words.specs.declared.refusal.Answer.{Answer}
 use Rattle.words.specs.declared.refusal.Answer.TheVariants.{Done}
-use Rattle.frames.specs.Frame.{Contents, GoodContents, ordered_in, frame_of, time_in}
-use Rattle.frames.specs.Read.{frame_is, frame_read, contents_in}
-use Rattle.frames.specs.Reading.{read_exactly, read_built, built_again}
+use Rattle.frames.specs.Frame.{Contents, GoodContents, time_in}
+use Rattle.frames.specs.Read.{contents_in}
 use Rattle.frames.specs.Due.{RefusesWith}
 use Rattle.frames.specs.Laws.Due.{Verdict, fine, due, refused_by}
 use Rattle.programs.specs.Symbols.{symbols_in}
-use Rattle.programs.specs.Output.{symbol_line, refusal_text, text_by}
-use Rattle.programs.specs.Building.{IsInput, after_first, printed_frame}
-use Rattle.programs.specs.Reading.{IsFrameLine, input_text, contents_text, frame_line, frame_input_answer, printed_sheet}
+use Rattle.programs.specs.Output.{refusal_text, text_by}
+use Rattle.programs.specs.Reading.{IsFrameLine, contents_text, frame_line, frame_input_answer, printed_sheet}
 use Rattle.programs.specs.Due.{FrameInputDue}
-use Rattle.programs.specs.Bench.{frame_printed}
 use Rattle.programs.specs.Laws.Reading.{frame_input_refused, frame_input_verdict, read_is, symbols_are, reads, reads_done, done_reads_as}
-use Rattle.programs.specs.Laws.Texts.{input_right, contents_after, texts_differ}
+use Rattle.programs.specs.Laws.Texts.{texts_differ}
 
 -- ---- good input
 
@@ -91,33 +87,3 @@ way_back_refused_exactly input n p =
 -- Then the refusal is printed, and nothing else.
 pub refusal_printed : (input : List ℕ) (n p : ℕ) → FrameInputDue input n p → printed_sheet input ≡ refusal_text n p
 refusal_printed input n p d = refused_text input n p (frame_input_refused input n p d).0
-
--- ---- there and back
-
-reads_as : (f : List ℕ) (c : Contents) (places : ℕ) → frame_read f ≡ frame_is c places → IsFrameLine c places (symbol_line f)
-reads_as f c places e =
-    let both = (read_exactly f c places).0 e in
-    record { symbols = f; text = refl; good = both.0; readable = both.1 }
-
--- Given what was printed for a frame, without its first line, the bench program prints the frame again, but for the time symbols that were
--- corrected; their number is the one in the first line.
-pub frame_back : (f : List ℕ) (c : Contents) (places : ℕ) → frame_read f ≡ frame_is c places
-    → (printed_sheet (symbol_line f) ≡ contents_text c places)
-    × (printed_frame (after_first (printed_sheet (symbol_line f))) ≡ symbol_line (frame_of c))
-    × (ordered_in (frame_of c) ≡ ordered_in f) × (differing f (frame_of c) ≡ places) × (places ≤ 9)
-frame_back f c places e =
-    let is = reads_as f c places e in
-    let printed = sheet_printed c places (symbol_line f) is in
-    let again = built_again f c places e in (
-      printed,
-      ap printed_frame (ap after_first printed ∙ contents_after c places) ∙ frame_printed c (input_text c) (input_right c is.good),
-      again.0,
-      again.1,
-      again.2,
-    )
-
--- What the bench program printed is read as what it was given, with the lines in the list's order, and no symbol corrected.
-pub input_back : (c : Contents) (input : List ℕ) → IsInput c input → printed_sheet (printed_frame input) ≡ contents_text c 0
-input_back c input is =
-    ap printed_sheet (frame_printed c input is)
-    ∙ sheet_printed c 0 (symbol_line (frame_of c)) (reads_as (frame_of c) c 0 (read_built c is.good))

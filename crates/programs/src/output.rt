@@ -9,7 +9,7 @@ use super::symbols::put_characters;
 use sheets::write::{write_decimal, write_text};
 
 // The bytes printed, with zeros behind them, and how many they are.
-#[derive(Drop)]
+#[derive(Clone, Copy)]
 pub struct Output {
     pub bytes: [u8; 1801],
     pub size: usize,

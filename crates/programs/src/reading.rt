@@ -30,7 +30,8 @@ fn take_frame_line(input: &[u8], frame: &mut [u8]) -> Answer
         return refuse(LENGTH, 0);
     }
     let end = input.len() - 1;
-    if input[end] != 10 {
+    let unended = input[end] != 10;
+    if unended {
         return refuse(LENGTH, 0);
     }
     take_symbols(&input[..end], frame)

@@ -1,4 +1,6 @@
 // The way back: reads a frame from standard input, and prints the page line and the sheet that the bench program would take.
+#![tactic(auto)]
+
 use programs::reading::print_sheet;
 
 // Of input longer than a frame's 1800 characters and a newline, one byte more shows that it is.

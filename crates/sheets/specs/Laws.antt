@@ -15,5 +15,4 @@ pub mod Missing
 pub mod Verdicts
 pub mod Meaning
 pub mod Arranged
-pub mod Reading
 pub mod Writing

@@ -13,7 +13,6 @@ pub mod Contents
 pub mod Carried
 pub mod Due
 pub mod Refused
-pub mod Reading
 pub mod Writing
 pub mod Walking
 pub mod Laws

@@ -1,23 +1,14 @@
 -- THEOREMS: demand 1, the sheet. Which sheets are refused, with which number, where; and what is beside a refusal.
 -- Assumes nothing.
-use Rattle.std.specs.Prelude.{◌≡◌, List, [], ◌↔◌, ◌≢◌, ℕ, ◌<◌, length, get_or, take}
-use Rattle.std.proofs.Common.{sym, ap, ◌∙◌, arith}
-use Rattle.words.specs.Refusal.{NAME, number_of, place_of}
+use Rattle.std.specs.Prelude.{◌≡◌, List, [], ℕ, take}
+use Rattle.std.proofs.Common.{sym, ap}
 use Rattle.words.specs.declared.refusal.Answer.{Answer}
 use Rattle.words.specs.declared.refusal.Answer.TheVariants.{Done, Refused}
 use Rattle.frames.specs.Due.{RefusesWith}
-use Rattle.frames.specs.Laws.Due.{refused_by}
 use Rattle.sheets.specs.Trailer.{start_of, lines_bytes}
 use Rattle.sheets.specs.Lines.{lines_in, numbers_in}
 use Rattle.sheets.specs.Sheet.{sheet_answer, no_sheet, sheet_by, sheet_read, before_sheet}
-use Rattle.sheets.specs.Due.{EndsWith, name_due, line_place, DueAt, SheetDue, UnknownAt, RefusedUpTo, at_its_line, at_a_line_before}
-use Rattle.sheets.specs.Laws.Judging.{due_refused, name_only, FineUpTo, UpTo, fine_lines, first_due, up_to}
-use Rattle.sheets.specs.Laws.Verdicts.{judged_lines, body_at, sheet_due_refused, sheet_verdict}
 use Rattle.sheets.specs.declared.sheet.Sheet.{Sheet}
-
--- A sheet is refused with number n at p exactly where that is due.
-pub sheet_refused_exactly : (s : List ℕ) (n p : ℕ) → RefusesWith (sheet_answer s) n p ↔ SheetDue s n p
-sheet_refused_exactly s n p = refused_by (sheet_answer s) (SheetDue s) (sheet_due_refused s) (sheet_verdict s) n p
 
 by_answer : (a : Answer) (s : List ℕ) (n p : ℕ) → RefusesWith a n p → sheet_by a (numbers_in (lines_in (lines_bytes s))) (start_of s) ≡ no_sheet n p
 by_answer Done s n p r = absurd (r.some (sym r.number_is))
@@ -31,23 +22,3 @@ refused_zeros s n p r = by_answer (sheet_answer s) s n p r
 -- And the part before a sheet that is refused is empty.
 pub refused_empty : (s : List ℕ) (n p : ℕ) → RefusesWith (sheet_answer s) n p → before_sheet s ≡ []
 refused_empty s n p r = ap (λ (x : Sheet). take x.before s) (refused_zeros s n p r)
-
--- A sheet with a name that is not on the list is refused 12 at the first such line, unless something judged before it is refused first.
-pub unknown_refused : (s front body : List ℕ) (i : ℕ) → EndsWith s front body → UnknownAt (lines_in body) i
-    → ((j : ℕ) → j < i → UnknownAt (lines_in body) j → ⊥) → RefusedUpTo s (lines_in body) i
-unknown_refused s front body i ends unknown first = go (up_to (lines_in body) i)
-  where
-    refused : (j n : ℕ) → j < length (lines_in body) → FineUpTo (lines_in body) j → DueAt (lines_in body) j n
-        → RefusesWith (sheet_answer s) n (line_place (lines_in body) j)
-    refused j n h all d =
-        let is = judged_lines s front body ends ∙ body_at body j n h all d in
-        record { number_is = ap number_of is; place_is = ap place_of is; some = (due_refused (take j (lines_in body)) 0 (get_or (lines_in body) j []) n d).1 }
-
-    other : (j n : ℕ) → j < i → DueAt (lines_in body) j n → n ≢ NAME
-    other j n h d e =
-        let name = name_only (take j (lines_in body)) (get_or (lines_in body) j []) n d e in
-        first j h (record { inside = omega (arith, unknown.inside); has = name.0; unlisted = name.1 })
-
-    go : UpTo (lines_in body) i → RefusedUpTo s (lines_in body) i
-    go (fine_lines all) = at_its_line (refused i NAME unknown.inside all (name_due unknown.has unknown.unlisted))
-    go (first_due j n h all d) = at_a_line_before j n h d (other j n h d) (refused j n (omega (arith, unknown.inside)) all d)

@@ -1,4 +1,6 @@
 // Message sheets: reading them at the end of lent bytes, writing them, and walking over the sheets of a file.
+#![tactic(auto)]
+
 mod lines;
 mod list;
 mod number;

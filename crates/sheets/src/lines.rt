@@ -8,7 +8,7 @@ use super::text::find;
 use words::refusal::{LINE, NAME, NAME_AGAIN, NUMBER};
 
 // What a line says: the number for the name at a position of the list, or the number of its refusal.
-#[derive(Drop)]
+#[derive(Clone, Copy)]
 pub(crate) enum Line {
     Gives(usize, i64),
     Refused(u8),

@@ -11,7 +11,7 @@ use fields::table::Field;
 use words::bits::magnitude;
 
 // Digits, and what they stand for; from BEYOND on, which is out of every field's range, only that.
-#[derive(Drop)]
+#[derive(Clone, Copy)]
 pub(crate) enum Digits {
     Are(u64),
     AreNot,
@@ -65,7 +65,7 @@ fn read_plain(text: &[u8]) -> Digits
 }
 
 // A number in its field's range, or that it is none.
-#[derive(Drop)]
+#[derive(Clone, Copy)]
 pub(crate) enum Number {
     Is(i64),
     IsNot,

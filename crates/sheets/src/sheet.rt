@@ -11,7 +11,7 @@ use super::trailer::sheet_start;
 use words::refusal::{Answer, LINE, NAME_MISSING, TRAILER, refuse};
 
 // What reading a sheet gives: its numbers, toi's first, and how many bytes stand before it; or a refusal with zeros beside it.
-#[derive(Drop)]
+#[derive(Clone, Copy)]
 pub struct Sheet {
     pub answer: Answer,
     pub numbers: [i64; 34],

@@ -7,7 +7,7 @@ use super::sheet::read_sheet;
 use words::refusal::{Answer, LENGTH, refuse};
 
 // A step of the walk: that it is finished, or what was read of a sheet, toi's number first; and the place where it goes on.
-#[derive(Drop)]
+#[derive(Clone, Copy)]
 pub struct Step {
     pub finished: bool,
     pub answer: Answer,
@@ -16,7 +16,7 @@ pub struct Step {
 }
 
 // The lent bytes, and a place in them.
-#[derive(Drop)]
+#[derive(Clone, Copy)]
 pub struct Walk<'a> {
     pub bytes: &'a [u8],
     pub place: usize,

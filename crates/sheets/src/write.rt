@@ -18,7 +18,7 @@ use fields::subframe2::judge_counts;
 use words::refusal::{Answer, LENGTH, ROOM, TIME, refuse};
 
 // What writing a sheet gives: how many bytes it has, or a refusal and 0.
-#[derive(Drop)]
+#[derive(Clone, Copy)]
 pub struct Written {
     pub answer: Answer,
     pub size: usize,

@@ -1,4 +1,6 @@
 // What the trial programs print: a line for each expectation, and whether it is so. Each function hands back whether it is so.
+#![tactic(auto)]
+
 ghost use Rattle.std.specs.Prelude.{◌≡◌};
 ghost use Rattle.show.specs.Answers.{is_done, is_refused};
 ghost use Rattle.show.specs.Counts.{SameCounts};

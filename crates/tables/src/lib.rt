@@ -1,4 +1,6 @@
 // The coordinate tables of IS-GPS-800 (6.2.4), and the passes over their ones.
+#![tactic(auto)]
+
 mod a2;
 mod a3;
 mod bcde2;

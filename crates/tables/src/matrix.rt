@@ -11,14 +11,14 @@ use super::t2::{add_t2, solve_t2};
 use super::t3::{add_t3, solve_t3};
 
 // The subframes that have parity.
-#[derive(Drop)]
+#[derive(Clone, Copy)]
 pub enum Subframe {
     Two,
     Three,
 }
 
 // The submatrices of A B T over C D E.
-#[derive(Drop)]
+#[derive(Clone, Copy)]
 pub enum Submatrix {
     A,
     B,

@@ -10,7 +10,7 @@ use super::refusal::{Answer, LENGTH, NOT_A_BIT, TIME, refuse};
 pub const LAST_TOI: u16 = 399;
 
 // What reading a time word gives: the time, and how many of the 52 symbols differ from its word; zeros beside a refusal.
-#[derive(Drop)]
+#[derive(Clone, Copy)]
 pub struct Time {
     pub answer: Answer,
     pub toi: u16,

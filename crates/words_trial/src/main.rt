@@ -1,5 +1,7 @@
 // Calls every public function of `words` with empty, short, long and garbage-filled slices and with extreme numbers, and with
 // the known values of time words and check bits, and prints a line for each: what is expected, and whether it is so.
+#![tactic(auto)]
+
 mod bits;
 mod crc;
 mod refusal;

@@ -1,33 +1,28 @@
 -- What is refused is what is due, and the other way round.
 -- Assumes nothing.
 use Rattle.std.specs.Prelude.{◌≡◌, refl, Bool, cond, List, [], ◌∷◌, ◌⊎◌, ◌≢◌, ◌↔◌, ℕ, zero, suc, ◌≤◌, ◌<◌, eqb, ltb, length, get_or, drop}
-use Rattle.std.proofs.Common.{sym, ap, ap₂, ◌∙◌, inl, inr, arith, eq-eqb, ne_eqb, lt-ltb, le-ltb}
+use Rattle.std.proofs.Common.{sym, ap, ◌∙◌, inl, inr, arith, eq-eqb, ne_eqb, lt-ltb, le-ltb}
 use Rattle.words.specs.Bits.{first_not_bit}
-use Rattle.words.specs.Crc.{remainder_of, Right}
-use Rattle.words.specs.Refusal.{LENGTH, NOT_A_BIT, FIELD_2, FIELD_3, refused_at, done_if, in_turn, number_of, place_of}
+use Rattle.words.specs.Refusal.{LENGTH, NOT_A_BIT, FIELD_2, FIELD_3, refused_at, done_if, number_of, place_of}
 use Rattle.words.specs.Laws.Digits.{none_not_bit, not_bit_le}
-use Rattle.words.specs.Laws.Turns.{not_done}
 use Rattle.words.specs.declared.refusal.Answer.{Answer}
 use Rattle.words.specs.declared.refusal.Answer.TheVariants.{Done}
-use Rattle.tables.specs.Matrix.{Matrix, matrix_of}
+use Rattle.tables.specs.Matrix.{Matrix}
 use Rattle.tables.specs.Laws.Cases.{same_or_not, before_or_not}
 use Rattle.tables.specs.declared.matrix.Subframe.{Subframe}
 use Rattle.tables.specs.declared.matrix.Subframe.TheVariants.{Two, Three}
-use Rattle.parity.specs.Equations.{Meets, first_unmet, equation_number, met_answer}
+use Rattle.parity.specs.Equations.{first_unmet}
 use Rattle.parity.specs.ExactlyOne.{none_unmet, first_unmet_is}
-use Rattle.parity.specs.Judged.{refused_equation, met_done}
 use Rattle.fields.specs.Table.{fields_in}
 use Rattle.fields.specs.Counts.{counts_in}
 use Rattle.fields.specs.CountsBack.{first_out_is, first_out_when}
 use Rattle.fields.specs.Subframe2.{fields2, first_out2}
 use Rattle.fields.specs.Pages.{HEAD_BITS, number_in}
 use Rattle.fields.specs.declared.table.Table.TheVariants.{Page1}
-use Rattle.frames.specs.Frame.{FRAME, subframe_in, data_in, bits_in}
-use Rattle.frames.specs.Read.{check_number, check_bits_answer, ranges_answer, subframe_answer, frame_judged}
-use Rattle.frames.specs.Due.{RefusesWith, AreSymbols, FirstByteAt, LentDue, length_due, byte_due, FirstUnmetAt, field_number, FieldOutAt, out_2, out_3, SubframeDue, equation_due, check_due, field_due, SubframeGood}
-use Rattle.frames.specs.Laws.Blocks.{subframe_length, subframe_bits}
+use Rattle.frames.specs.Frame.{FRAME}
+use Rattle.frames.specs.Read.{ranges_answer, frame_judged}
+use Rattle.frames.specs.Due.{RefusesWith, AreSymbols, FirstByteAt, LentDue, length_due, byte_due, FirstUnmetAt, field_number, FieldOutAt, out_2, out_3, SubframeDue, equation_due, check_due, field_due}
 use Rattle.frames.specs.Laws.Good.{first_out3, other_page, page_1_out}
-use Rattle.frames.specs.Laws.Reading.{done_is, is_done_lem}
 
 -- ---- any answer
 
@@ -112,7 +107,7 @@ lent_view f = by_length (same_or_not (length f) FRAME)
 
 -- ---- equations
 
-unmet_when : (M : Matrix) (x : List ℕ) (p : ℕ) → FirstUnmetAt M x p → first_unmet M x ≡ p
+pub unmet_when : (M : Matrix) (x : List ℕ) (p : ℕ) → FirstUnmetAt M x p → first_unmet M x ≡ p
 unmet_when M x p h = go (same_or_not (first_unmet M x) 0)
   where
     go : (first_unmet M x ≡ 0) ⊎ (first_unmet M x ≢ 0) → first_unmet M x ≡ p
@@ -129,7 +124,7 @@ unmet_when M x p h = go (same_or_not (first_unmet M x) 0)
         order (inr a) (inl b) no_less no_more = absurd (no_more b)
         order (inr a) (inr b) no_less no_more = omega arith
 
-unmet_is : (M : Matrix) (x : List ℕ) → first_unmet M x ≢ 0 → FirstUnmetAt M x (first_unmet M x)
+pub unmet_is : (M : Matrix) (x : List ℕ) → first_unmet M x ≢ 0 → FirstUnmetAt M x (first_unmet M x)
 unmet_is M x ne =
     let is = first_unmet_is M x (first_unmet M x) refl ne in
     record { first = is.0; last = is.1; unmet = is.2; before = is.3 }
@@ -167,74 +162,6 @@ range_view Three bits = go (same_or_not (first_out3 bits) 0) (same_or_not (numbe
         (first_out_is HEAD_BITS (fields_in Page1) (counts_in (fields_in Page1) (drop HEAD_BITS bits)) (first_out3 bits) (sym (page_1_out bits one)) ne))
 
 -- ---- a subframe
-
-module _ (s : Subframe) (f : List ℕ) (are : AreSymbols f) where
-  met_answer_lem : Meets (matrix_of s) (subframe_in s f) → met_answer s (subframe_in s f) ≡ Done
-  met_answer_lem m = met_done s (subframe_in s f) (subframe_length s f) (subframe_bits s f are.bits) m
-
-  unmet_answer : (p : ℕ) → FirstUnmetAt (matrix_of s) (subframe_in s f) p → met_answer s (subframe_in s f) ≡ refused_at (equation_number s) p
-  unmet_answer p h =
-      let is = unmet_when (matrix_of s) (subframe_in s f) p h in
-      refused_equation s (subframe_in s f) (subframe_length s f) (subframe_bits s f are.bits) (λ e. omega (arith, h.first))
-      ∙ ap (refused_at (equation_number s)) is
-
-  right_answer : Right (data_in s f) → check_bits_answer s (data_in s f) ≡ Done
-  right_answer r = ap (λ (t : Bool). done_if t (check_number s) 0) (eq-eqb (remainder_of (data_in s f)) 0 r)
-
-  wrong_answer : (Right (data_in s f) → ⊥) → check_bits_answer s (data_in s f) ≡ refused_at (check_number s) 0
-  wrong_answer r = ap (λ (t : Bool). done_if t (check_number s) 0) (ne_eqb (remainder_of (data_in s f)) 0 r)
-
-  -- what is due is refused
-  pub subframe_due_refused : (n p : ℕ) → SubframeDue s f n p → subframe_answer s (subframe_in s f) ≡ refused_at n p
-  subframe_due_refused n p (equation_due q h) =
-      ap (λ (a : Answer). in_turn a (in_turn (check_bits_answer s (data_in s f)) (ranges_answer s (bits_in s f)))) (unmet_answer q h)
-  subframe_due_refused n p (check_due m r) =
-      ap₂ (λ (a b : Answer). in_turn a (in_turn b (ranges_answer s (bits_in s f)))) (met_answer_lem m) (wrong_answer r)
-  subframe_due_refused n p (field_due q m r h) =
-      ap₂ (λ (a b : Answer). in_turn a (in_turn b (ranges_answer s (bits_in s f)))) (met_answer_lem m) (right_answer r)
-      ∙ field_out_refused s (bits_in s f) q h
-
-  -- a subframe is done, or something is due
-  pub subframe_verdict : Verdict (subframe_answer s (subframe_in s f)) (SubframeDue s f)
-  subframe_verdict = by_equations (same_or_not (first_unmet (matrix_of s) (subframe_in s f)) 0)
-    where
-      by_ranges : Meets (matrix_of s) (subframe_in s f) → Right (data_in s f) → RangeView s (bits_in s f)
-          → Verdict (subframe_answer s (subframe_in s f)) (SubframeDue s f)
-      by_ranges m r (ranges_fine e) =
-          fine (is_done_lem s (subframe_in s f)
-          (record { long = subframe_length s f; bits = subframe_bits s f are.bits; meets = m; right = r; ranges = e }))
-      by_ranges m r (range_out p h) = due (field_number s) p (field_due p m r h)
-
-      by_check : Meets (matrix_of s) (subframe_in s f) → (remainder_of (data_in s f) ≡ 0) ⊎ (remainder_of (data_in s f) ≢ 0)
-          → Verdict (subframe_answer s (subframe_in s f)) (SubframeDue s f)
-      by_check m (inl r) = by_ranges m r (range_view s (bits_in s f))
-      by_check m (inr r) = due (check_number s) 0 (check_due m r)
-
-      by_equations : (first_unmet (matrix_of s) (subframe_in s f) ≡ 0) ⊎ (first_unmet (matrix_of s) (subframe_in s f) ≢ 0)
-          → Verdict (subframe_answer s (subframe_in s f)) (SubframeDue s f)
-      by_equations (inl e) = by_check (none_unmet (matrix_of s) (subframe_in s f) e) (same_or_not (remainder_of (data_in s f)) 0)
-      by_equations (inr ne) =
-          due (equation_number s) (first_unmet (matrix_of s) (subframe_in s f))
-          (equation_due (first_unmet (matrix_of s) (subframe_in s f)) (unmet_is (matrix_of s) (subframe_in s f) ne))
-
-  -- one that is good is done, and the other way round
-  pub good_done : SubframeGood s f → subframe_answer s (subframe_in s f) ≡ Done
-  good_done g =
-      ap₂ (λ (a b : Answer). in_turn a (in_turn b (ranges_answer s (bits_in s f)))) (met_answer_lem g.meets) (right_answer g.right)
-      ∙ within_range (range_view s (bits_in s f))
-    where
-      within_range : RangeView s (bits_in s f) → ranges_answer s (bits_in s f) ≡ Done
-      within_range (ranges_fine e) = e
-      within_range (range_out p h) = absurd (g.within_range p h)
-
-  pub done_good : subframe_answer s (subframe_in s f) ≡ Done → SubframeGood s f
-  done_good e =
-      let d = done_is s (subframe_in s f) e in
-      record {
-        meets = d.meets;
-        right = d.right;
-        within_range = λ p h. not_done (field_number s) p (sym (field_out_refused s (bits_in s f) p h) ∙ d.ranges);
-      }
 
 -- the numbers are those of the table
 pub subframe_some : (s : Subframe) (f : List ℕ) (n p : ℕ) → SubframeDue s f n p → n ≢ 0

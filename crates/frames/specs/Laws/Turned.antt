@@ -98,7 +98,7 @@ module _ (c : Contents) (t : List ℕ) (have : HaveBits c) (flags : FrameFlags t
   turned_bits : IsBits (turned (frame_of c) t)
   turned_bits = sums_are (frame_of c) t
 
-  turned_judged : (a : Answer) → frame_judged (turned (frame_of c) t) a ≡ a
+  pub turned_judged : (a : Answer) → frame_judged (turned (frame_of c) t) a ≡ a
   turned_judged a = lent_on (turned (frame_of c) t) turned_length turned_bits a
 
   pub time_read_lem : c.toi ≤ 399 → weight (time_in t) ≤ 9 → time_alone (turned (frame_of c) t) ≡ time_is c.toi (weight (time_in t))
@@ -112,7 +112,7 @@ module _ (c : Contents) (t : List ℕ) (have : HaveBits c) (flags : FrameFlags t
     sent : List ℕ
     sent = subframe_in s (frame_of c)
 
-    got : List ℕ
+    unfoldable pub got : List ℕ
     got = subframe_in s (turned (frame_of c) t)
 
     got_is : got ≡ sums sent (subframe_in s t)
@@ -168,7 +168,7 @@ module _ (c : Contents) (t : List ℕ) (have : HaveBits c) (flags : FrameFlags t
         ((bits_take (matrix_of s).equations (subframe_in s t) (subframe_bits s t flags.bits)).bit k)
         (λ e. h (e ∙ sym at))
 
-    not_right : NamedDamage (data_in s t) → SomeTurned s t → IsDone s got → ⊥
+    pub not_right : NamedDamage (data_in s t) → SomeTurned s t → IsDone s got → ⊥
     unfolding sent got
     not_right how some done =
         let d = data_of (matrix_of s) sent in
@@ -187,11 +187,3 @@ module _ (c : Contents) (t : List ℕ) (have : HaveBits c) (flags : FrameFlags t
 
         data_got : length (data_of (matrix_of s) got) ≡ (matrix_of s).equations
         data_got = data_length s (turned (frame_of c) t)
-
-    pub subframe_noticed : SomeTurned s t → NamedDamage (data_in s t) → Refuses (alone_answer s (turned (frame_of c) t))
-    unfolding got
-    subframe_noticed some how zero_number =
-        not_right how some
-        (done_is s got
-        (subframe_numbered s got
-        (sym (ap number_of (alone_is s (turned (frame_of c) t) ∙ turned_judged (subframe_answer s got))) ∙ zero_number)))

@@ -1,6 +1,6 @@
 -- The sum of two codewords is a codeword.
 -- Assumes nothing.
-use Rattle.std.specs.Prelude.{◌≡◌, refl, List, [], ◌∷◌, ◌++◌, ℕ, ◌+◌, ◌-◌, ◌%◌, length}
+use Rattle.std.specs.Prelude.{◌≡◌, refl, List, [], ◌∷◌, ◌++◌, ℕ, ◌+◌, ◌%◌, length}
 use Rattle.std.proofs.Common.{sym, ◌∙◌, ap, ap₂, subst, arith}
 use Rattle.words.specs.Sums.{add2, sums}
 use Rattle.words.specs.Laws.Sums.{length_sums, sums_at, sums_are, sums_append}

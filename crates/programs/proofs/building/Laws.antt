@@ -27,7 +27,7 @@ use Rattle.sheets.specs.Text.{LINE_END, index_of}
 use Rattle.sheets.specs.List.{NUMBERS}
 use Rattle.sheets.specs.Trailer.{start_of}
 use Rattle.sheets.specs.Sheet.{sheet_is, sheet_read}
-use Rattle.sheets.specs.Reading.{read_exactly}
+use Rattle.sheets.proofs.Reading.{read_exactly}
 use Rattle.sheets.specs.Laws.Text.{index_le}
 use Rattle.sheets.specs.Laws.Lengths.{range_good}
 use Rattle.programs.specs.Symbols.{symbols_in, symbols_answer}
@@ -36,7 +36,7 @@ use Rattle.programs.specs.Building.{MOST_INPUT, first_line, after_first, page_li
 use Rattle.programs.specs.Laws.Symbols.{symbols_long, every_bit}
 use Rattle.programs.specs.Laws.Due.{done_all}
 use Rattle.programs.specs.Laws.Building.{first_time, read_answer}
-use Rattle.programs.specs.Laws.Inputs.{done_right}
+use Rattle.programs.proofs.Laws.Inputs.{done_right}
 
 -- ---- answers
 

@@ -13,7 +13,7 @@ use Rattle.words.specs.declared.refusal.Answer.TheVariants.{Done, Refused}
 use Rattle.words.specs.declared.refusal.Refusal.{Refusal}
 use Rattle.frames.specs.Frame.{Contents, GoodContents, FRAME, time_in}
 use Rattle.frames.specs.Read.{frame_answer, contents_in, frame_is, frame_by, frame_read}
-use Rattle.frames.specs.Reading.{read_exactly}
+use Rattle.frames.proofs.Reading.{read_exactly}
 use Rattle.frames.specs.declared.read.Frame.{Frame}
 use Rattle.sheets.specs.Text.{LINE_END, bytes_in}
 use Rattle.sheets.specs.Number.{decimal}

@@ -1,6 +1,6 @@
 -- The input of the way back: what is refused is what is due, and what is not refused is a frame.
 -- Assumes nothing.
-use Rattle.std.specs.Prelude.{◌≡◌, refl, Bool, List, [], ◌∷◌, ◌++◌, ◌⊎◌, ◌≢◌, ℕ, suc, ◌+◌, ◌-◌, eqb, length, get_or, take}
+use Rattle.std.specs.Prelude.{◌≡◌, refl, Bool, List, [], ◌∷◌, ◌++◌, ◌⊎◌, ◌≢◌, ℕ, suc, ◌-◌, eqb, length, get_or, take}
 use Rattle.std.proofs.Common.{sym, ap₂, ◌∙◌, inl, inr, arith, take-append-drop, drop_of_length-le, drop-cons, eq-eqb, ne_eqb, eqb-true}
 use Rattle.std.proofs.Math.Path.{ap}
 use Rattle.words.specs.Refusal.{LENGTH, refused_at, done_if, in_turn}
@@ -12,11 +12,11 @@ use Rattle.tables.specs.Laws.Cases.{same_or_not}
 use Rattle.frames.specs.Frame.{Contents, FRAME, time_in}
 use Rattle.frames.specs.Read.{frame_answer, frame_is, frame_by, frame_read, contents_in}
 use Rattle.frames.specs.Build.{contents_of}
-use Rattle.frames.specs.Reading.{read_exactly}
+use Rattle.frames.proofs.Reading.{read_exactly}
 use Rattle.frames.specs.Due.{FrameDue}
 use Rattle.frames.specs.Laws.Due.{Verdict, fine, due}
-use Rattle.frames.specs.Laws.Reading.{done_reads}
-use Rattle.frames.specs.Laws.Verdicts.{frame_due_refused, frame_verdict}
+use Rattle.frames.proofs.Laws.Reading.{done_reads}
+use Rattle.frames.proofs.Laws.Verdicts.{frame_due_refused, frame_verdict}
 use Rattle.frames.specs.declared.read.Frame.{Frame}
 use Rattle.sheets.specs.Text.{LINE_END}
 use Rattle.programs.specs.Symbols.{first_other, symbols_in, characters_of, symbols_answer}

@@ -1,6 +1,6 @@
 -- Computed tests of a coordinate table, and the rule that each gives.
 -- Assumes nothing.
-use Rattle.std.specs.Prelude.{◌≡◌, refl, Bool, true, false, cond, ◌&&◌, List, [], ◌∷◌, ◌≢◌, ℕ, zero, suc, ◌+◌, ◌*◌, ◌^◌, ◌≤◌, ◌<◌, eqb, leb, ltb}
+use Rattle.std.specs.Prelude.{◌≡◌, refl, Bool, true, false, cond, ◌&&◌, List, [], ◌∷◌, ℕ, zero, suc, ◌+◌, ◌*◌, ◌^◌, ◌≤◌, ◌<◌, eqb, leb, ltb}
 use Rattle.std.proofs.Common.{sym, ◌∙◌, ap, subst, ⊎_elim, pow-suc, arith, eqb-true, leb-true, ltb-true, lt-ltb, le-leb}
 use Rattle.std.proofs.Math.Bool.{and-eq-true_iff}
 use Rattle.std.proofs.lemmas.Bool.{false≢true}
@@ -20,6 +20,7 @@ both a b h = (and-eq-true_iff a b).0 h
 inside_at : (n c : ℕ) (m : List Coordinate) → all_inside n c m ≡ true → (i j : ℕ) → HasOne i j m
     → (1 ≤ i) × (i ≤ n) × (1 ≤ j) × (j ≤ c)
 unfolding all_inside
+inside_at n c [] h i j x'' = elim x'' [ ]
 inside_at n c (rc i' j' ∷ m) h i j (at_first a b) =
     let h₁ = both (leb 1 i') _ h in
     let h₂ = both (leb i' n) _ h₁.1 in

@@ -14,6 +14,7 @@ on_diagonal n (next_diagonal {d} ei ej t) k lo hi =
 on_diagonal n (beneath one seen low most t) k lo hi = at_later (on_diagonal n t k lo hi)
 
 pub none_over : (n i j : ℕ) {d : ℕ} {m : List Coordinate} → ByColumns n d m → HasOne i j m → j ≤ i
+none_over n i j (finished {d = d} _) x5 = elim x5 [ ]
 none_over n i j (next_diagonal ei ej t) (at_first a b) = omega arith
 none_over n i j (next_diagonal ei ej t) (at_later o) = none_over n i j t o
 none_over n i j (beneath one seen low most t) (at_first a b) = omega arith

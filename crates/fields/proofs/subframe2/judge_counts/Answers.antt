@@ -1,0 +1,24 @@
+-- `fields::subframe2::judge_counts` meets its contract. Assumes nothing.
+use mathlib.Core.Path.{sym, ◌∙◌}
+use native.Mathlib.Omega.{arith}
+use Rattle.fields.specs.Laws.Table.{count_subframe2}
+use Rattle.fields.proofs.subframe2.Laws.{too_many, some_out, none_out}
+use Rattle.fields.proofs.subframe2.judge_counts.Goals as goal
+
+pub returns-then-counts-ne33 : goal.returns-then-counts-ne33
+returns-then-counts-ne33 c = c.refuse.ensures ∙ too_many c.args.counts.now c.if-counts-ne33.true
+
+pub first_out-out-requires : goal.first_out-out-requires
+first_out-out-requires c = (c.if-counts-ne33.false ∙ sym count_subframe2, omega arith)
+
+pub returns-then-out-ne0 : goal.returns-then-out-ne0
+returns-then-out-ne0 c =
+    let first = c.first_out-out in
+    c.refuse-then-out-ne0.ensures
+    ∙ some_out c.args.counts.now first.result first.ensures c.if-counts-ne33.false
+    c.if-out-ne0.true
+
+pub returns : goal.returns
+returns c =
+    let first = c.first_out-out in
+    none_out c.args.counts.now first.result first.ensures c.if-counts-ne33.false c.if-out-ne0.false

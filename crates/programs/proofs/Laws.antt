@@ -1,0 +1,3 @@
+-- The laws among them.
+pub mod Building
+pub mod Inputs

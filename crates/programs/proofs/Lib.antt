@@ -1,0 +1,4 @@
+-- The theorems and laws that rest on a definition that a must-fail edit of this crate changes.
+pub mod Laws
+pub mod Bench
+pub mod WayBack

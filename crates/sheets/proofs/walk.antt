@@ -1,2 +1,0 @@
--- The proofs of `walk`, and the laws that they rest on.
-mod Laws
