@@ -1,13 +1,11 @@
 -- THEOREMS: demand 3, the subframes. Take any frame that is built and turn any of its symbols over.
 -- Assumes nothing.
-use Rattle.std.specs.Prelude.{◌≡◌, List, ℕ, ◌≤◌}
-use Rattle.words.specs.Sums.{weight}
-use Rattle.words.specs.Time.{time_is}
+use Rattle.std.specs.Prelude.{List, ℕ}
 use Rattle.words.specs.Unchanged.{Refuses}
 use Rattle.tables.specs.declared.matrix.Subframe.{Subframe}
 use Rattle.tables.specs.declared.matrix.Subframe.TheVariants.{Two, Three}
-use Rattle.frames.specs.Frame.{Contents, GoodContents, time_in, data_in, frame_of}
-use Rattle.frames.specs.Read.{time_alone, subframe2_alone, subframe3_alone, alone_answer}
+use Rattle.frames.specs.Frame.{Contents, GoodContents, data_in, frame_of}
+use Rattle.frames.specs.Read.{subframe2_alone, subframe3_alone, alone_answer}
 use Rattle.frames.specs.Turned.{FrameFlags, turned, SomeTurned, NamedDamage}
 use Rattle.frames.specs.Laws.Good.{good_bits}
 use Rattle.frames.proofs.Laws.Turned.{subframe_noticed}

@@ -2,14 +2,12 @@
 -- Assumes nothing.
 use Rattle.std.specs.Prelude.{◌≡◌, List, ◌↔◌, ℕ, ◌+◌, ◌≤◌, ℤ}
 use Rattle.std.proofs.Common.{sym, ap, ap₂, ◌∙◌, arith, take-append-drop}
-use Rattle.words.specs.Reading.{read_exactly as word_read_exactly}
 use Rattle.words.specs.Sums.{differing}
-use Rattle.words.specs.Time.{IsTime, time_is, time_read, time_word}
+use Rattle.words.specs.Time.{time_read, time_word}
 use Rattle.words.specs.Laws.Sums.{differing_self, differing_append}
 use Rattle.words.specs.Laws.Turns.{Answered, done, refused, answered, not_done}
 use Rattle.words.specs.declared.refusal.Answer.{Answer}
 use Rattle.words.specs.declared.refusal.Answer.TheVariants.{Done}
-use Rattle.words.specs.declared.time.Time.{Time}
 use Rattle.tables.specs.declared.matrix.Subframe.{Subframe}
 use Rattle.tables.specs.declared.matrix.Subframe.TheVariants.{Two, Three}
 use Rattle.fields.specs.Table.{fields_in}
@@ -18,12 +16,12 @@ use Rattle.fields.specs.Subframe2.{fields_by}
 use Rattle.fields.specs.declared.table.Table.TheVariants.{Subframe2}
 use Rattle.fields.specs.declared.subframe2.Fields.{Fields}
 use Rattle.frames.specs.Frame.{Contents, GoodContents, TIME_SYMBOLS, time_in, ordered_in, subframe_in, bits_in, ReadableAs, frame_of}
-use Rattle.frames.specs.Read.{subframe_answer, frame_judged, frame_answer, contents_in, frame_is, frame_by, frame_read, time_by, time_alone, subframe2_alone, page_is, page_by, subframe3_alone}
+use Rattle.frames.specs.Read.{subframe_answer, frame_judged, frame_answer, contents_in, frame_is, frame_by, frame_read, subframe2_alone, page_is, page_by, subframe3_alone}
 use Rattle.frames.specs.Due.{AreSymbols, SubframeGood}
 use Rattle.frames.specs.Built.{built_right, carried_only}
 use Rattle.frames.specs.Laws.Blocks.{time_of, frame_length}
 use Rattle.frames.proofs.Laws.Due.{good_done, done_good}
-use Rattle.frames.specs.Laws.Reading.{lent_on, lent_done, time_length, time_is_lem}
+use Rattle.frames.specs.Laws.Reading.{lent_on, lent_done, time_length}
 use Rattle.frames.proofs.Laws.Reading.{reads_done, done_reads}
 use Rattle.frames.specs.declared.read.Frame.{Frame}
 use Rattle.frames.specs.declared.read.PageBits.{PageBits}

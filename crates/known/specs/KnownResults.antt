@@ -1,4 +1,4 @@
--- THEOREMS: every known result that document 01 marks P is what the definitions give.
+-- The known results that document 01 marks P, row by row, and that what the definitions give computes to what is expected.
 -- Assumes nothing.
 use Rattle.std.specs.Prelude.{◌≡◌, ℕ, ◌<◌, List, [], ◌∷◌, ◌++◌, map, length, get_or, replicate, ℤ, negsuc, slice_index_or, refl}
 use Rattle.std.proofs.Common.{sym, ap, ◌∙◌}
@@ -52,15 +52,10 @@ known_results =
 abbrev pub case_at : ℕ → KnownResult
 case_at k = slice_index_or known_results k (known_case "" [] [])
 
--- For every row of the table, what the definitions give is what document 01 expects.
-pub as_expected : (k : ℕ) → k < length known_results → (case_at k).given ≡ (case_at k).expected
+-- What the definitions give, row by row, computes to what document 01 expects.
+pub computed : map (λ (r : KnownResult). r.given) known_results ≡ map (λ (r : KnownResult). r.expected) known_results
 unfolding known_results first_not_bit value_of bits_of signed_of reduced fed check_of shifted_out time_word nearest_time time_read
     subframe2_rows fields_in counts_in bits_of_counts first_out fields2
     same_bytes parts_ended after_last sheet_rows sheet_names position_in all_digits decimal_from is_trailer trailer_count has_trailer start_of lines_bytes
     is_given given_in first_missing missing_answer lines_answer body_answer sheet_read
-as_expected k h =
-    -- what the definitions give, row by row, computes to what document 01 expects
-    let computed : map (λ (r : KnownResult). r.given) known_results ≡ map (λ (r : KnownResult). r.expected) known_results = refl in
-    sym (get_or-map (λ (r : KnownResult). r.given) known_results k (known_case "" [] []))
-    ∙ ap (λ (l : List (List ℤ)). get_or l k []) computed
-    ∙ get_or-map (λ (r : KnownResult). r.expected) known_results k (known_case "" [] [])
+computed = refl

@@ -1,6 +1,6 @@
 -- What is due of a subframe is what is refused of it.
 -- Assumes nothing.
-use Rattle.std.specs.Prelude.{◌≡◌, Bool, List, ◌⊎◌, ◌≢◌, ℕ, eqb}
+use Rattle.std.specs.Prelude.{◌≡◌, Bool, List, ◌⊎◌, ◌≢◌, ℕ}
 use Rattle.std.proofs.Common.{sym, ap, ap₂, ◌∙◌, inl, inr, arith, eq-eqb, ne_eqb}
 use Rattle.words.specs.Crc.{remainder_of, Right}
 use Rattle.words.specs.Refusal.{refused_at, done_if, in_turn}

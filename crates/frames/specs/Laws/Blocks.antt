@@ -1,6 +1,6 @@
 -- The symbols of a subframe, in a frame and taken out of it.
 -- Assumes nothing.
-use Rattle.std.specs.Prelude.{◌≡◌, refl, List, ◌++◌, ℕ, ◌+◌, ◌-◌, length, take, drop}
+use Rattle.std.specs.Prelude.{◌≡◌, refl, List, ◌++◌, ℕ, ◌+◌, length, take, drop}
 use Rattle.std.proofs.Math.Path.{sym, ap, ap₂}
 use Rattle.std.proofs.Common.{◌∙◌, arith, length-drop, take-append-drop, take-take, length-take-le}
 use Rattle.std.proofs.Math.ListN.{length-append}

@@ -8,10 +8,8 @@ use Rattle.std.proofs.Math.ListN.{length, get_or}
 use Rattle.words.specs.Bits.{IsBits}
 use Rattle.words.specs.Noticed.{noticed}
 use Rattle.words.specs.Reading.{time_borne}
-use Rattle.words.specs.Refusal.{number_of}
 use Rattle.words.specs.Sums.{add2, sums, differing, weight, Within24}
 use Rattle.words.specs.Time.{time_is, time_read}
-use Rattle.words.specs.Unchanged.{Refuses}
 use Rattle.words.specs.Laws.Digits.{bits_take}
 use Rattle.words.specs.Laws.Sums.{length_sums, sums_at, sums_are, differing_comm, differing_none, turned_differ}
 use Rattle.words.specs.declared.refusal.Answer.{Answer}
@@ -24,9 +22,9 @@ use Rattle.parity.specs.Equations.{data_of}
 use Rattle.parity.specs.InOrder.{deinterleaved_linear}
 use Rattle.parity.specs.Order.{SYMBOLS_2, deinterleaved, first_block, second_block}
 use Rattle.frames.specs.Frame.{Contents, FRAME, TIME_SYMBOLS, time_in, ordered_in, subframe_in, data_in, bits_before, subframe_of, bits_from, frame_of}
-use Rattle.frames.specs.Read.{subframe_answer, frame_judged, time_alone, time_by, alone_answer}
+use Rattle.frames.specs.Read.{frame_judged, time_alone, time_by}
 use Rattle.frames.specs.Turned.{FrameFlags, turned, SomeTurned, NamedDamage, none, two, odd, near}
-use Rattle.frames.specs.Laws.Reading.{alone_is, subframe_numbered, IsDone, done_is, lent_on}
+use Rattle.frames.specs.Laws.Reading.{IsDone, lent_on}
 use Rattle.frames.specs.Laws.Blocks.{HaveBits, subframe_length, subframe_bits, data_length, bits_in_data, made_bits, made_right, only_made, time_of, frame_length, frame_bits, subframe_of_frame}
 
 -- ---- parts of sums

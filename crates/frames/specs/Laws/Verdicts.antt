@@ -1,22 +1,20 @@
 -- The time, alone and in a frame: it is done, or something is due, and what is due is refused.
 -- Assumes nothing.
 use Rattle.std.specs.Prelude.{◌≡◌, List, ◌≢◌, ℕ}
-use Rattle.std.proofs.Math.Path.{ap, ap₂}
+use Rattle.std.proofs.Math.Path.{ap}
 use Rattle.std.proofs.Common.{◌∙◌, arith}
-use Rattle.words.specs.Refusal.{TIME, refused_at, in_turn}
+use Rattle.words.specs.Refusal.{TIME, refused_at}
 use Rattle.words.specs.Time.{no_time, time_read}
 use Rattle.words.specs.Laws.Digits.{bits_none, bits_take}
 use Rattle.words.specs.Laws.Judged.{Judged, wrong_length, wrong_byte, time_missing, a_time, judged}
 use Rattle.words.specs.declared.refusal.Answer.{Answer}
 use Rattle.words.specs.declared.refusal.Answer.TheVariants.{Done}
 use Rattle.words.specs.declared.time.Time.{Time}
-use Rattle.tables.specs.declared.matrix.Subframe.{Subframe}
-use Rattle.tables.specs.declared.matrix.Subframe.TheVariants.{Two, Three}
-use Rattle.frames.specs.Frame.{TIME_SYMBOLS, time_in, subframe_in}
-use Rattle.frames.specs.Read.{subframe_answer, frame_judged, frame_answer, time_by, time_alone}
+use Rattle.frames.specs.Frame.{TIME_SYMBOLS, time_in}
+use Rattle.frames.specs.Read.{time_by, time_alone}
 use Rattle.frames.specs.Due as Rules
 use Rattle.frames.specs.Due.{AreSymbols, NoTime, HasTime, SubframeDue, FrameDue, TimeDue, AloneDue}
-use Rattle.frames.specs.Laws.Due.{Verdict, fine, due, LentView, lent_due, lent_fine, lent_view, lent_due_refused, lent_some, subframe_some}
+use Rattle.frames.specs.Laws.Due.{Verdict, fine, due, LentView, lent_due, lent_fine, lent_view, lent_due_refused, lent_some}
 use Rattle.frames.specs.Laws.Reading.{lent_on, time_is_lem, time_length}
 
 -- ---- the time

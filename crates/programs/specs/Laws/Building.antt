@@ -17,7 +17,6 @@ use Rattle.fields.specs.Pages.{range_answer}
 use Rattle.fields.specs.declared.table.Table.TheVariants.{Subframe2}
 use Rattle.frames.specs.Frame.{Contents}
 use Rattle.frames.specs.Build.{contents_answer}
-use Rattle.frames.specs.Laws.Due.{due}
 use Rattle.sheets.specs.List.{sheet_rows, sheet_fields}
 use Rattle.sheets.specs.Trailer.{has_trailer, start_of, lines_bytes}
 use Rattle.sheets.specs.Lines.{lines_in, numbers_in}

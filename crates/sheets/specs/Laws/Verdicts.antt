@@ -4,7 +4,6 @@ use Rattle.std.specs.Prelude.{◌≡◌, refl, Bool, true, false, List, [], ℕ,
 use Rattle.std.proofs.Common.{ap, ◌∙◌}
 use Rattle.std.proofs.Math.Path.{ap₂}
 use Rattle.words.specs.Refusal.{TRAILER, refused_at, done_if, in_turn}
-use Rattle.frames.specs.Laws.Due.{fine, due}
 use Rattle.sheets.specs.Trailer.{has_trailer, start_of, lines_bytes}
 use Rattle.sheets.specs.Lines.{body_answer}
 use Rattle.sheets.specs.Sheet.{sheet_answer}

@@ -1,7 +1,6 @@
 -- `exports::lent::copy_numbers` meets its contract. The invariant: with the numbers that are left copied, it is all of them.
 -- Assumes nothing.
 use mathlib.Core.Path.{refl, sym, ◌∙◌}
-use Prim.Native.Nat.{◌-◌}
 use native.Mathlib.Omega.{arith}
 use lib.IntN.{pos}
 use lib.ListN.{get_or, length-set}

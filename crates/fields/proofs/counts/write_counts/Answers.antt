@@ -1,5 +1,5 @@
 -- `fields::counts::write_counts` meets its contract. The invariant: what is left to write gives the bytes that are asked for. Assumes nothing.
-use Prim.Native.Nat.{ℕ, ◌+◌, ◌-◌, ◌≤◌}
+use Prim.Native.Nat.{ℕ, ◌+◌, ◌≤◌}
 use mathlib.Core.Path.{◌≡◌, refl, sym, ◌∙◌, ap₂}
 use mathlib.Core.List.{List, ◌++◌}
 use native.Mathlib.Omega.{arith}

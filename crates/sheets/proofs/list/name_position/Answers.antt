@@ -1,5 +1,4 @@
 -- `sheets::list::name_position` meets its contract: what it compares a name with are the names of the list. Assumes nothing.
-use Prim.Native.Nat.{◌-◌}
 use mathlib.Core.Path.{◌≡◌, refl, sym, ap, ◌∙◌}
 use mathlib.Core.List.{[]}
 use native.Mathlib.Omega.{arith}

@@ -1,5 +1,5 @@
 -- `sheets::number::put_decimal` meets its contract: it calls itself with a tenth of the number. Assumes nothing.
-use Rattle.std.proofs.Common.{◌≡◌, ◌∙◌, ℕ, ◌+◌, ◌/◌, ◌%◌, ◌≤◌, List, length, set, ap, ap₂, arith}
+use Rattle.std.proofs.Common.{◌∙◌, ℕ, ◌+◌, ◌/◌, ◌%◌, ◌≤◌, List, length, set, ap, ap₂, arith}
 use lib.Seq.{length-sets}
 use Rattle.sheets.specs.Number.{decimal}
 use Rattle.sheets.proofs.number.Laws.{short_length, short_written, long_length, long_written}

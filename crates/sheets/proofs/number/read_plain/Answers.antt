@@ -1,7 +1,6 @@
 -- `sheets::number::read_plain` meets its contract. Assumes nothing.
 use mathlib.Core.Path.{◌≡◌, sym, ap, ◌∙◌}
 use mathlib.Core.Bool.{Bool}
-use mathlib.Core.Logic.{⊎_elim}
 use native.Mathlib.Omega.{arith}
 use Rattle.sheets.specs.Number.{is_plain, all_digits}
 use Rattle.sheets.specs.Laws.Steps.{digits_by}

@@ -1,6 +1,5 @@
 -- `sheets::sheet::first_missing` meets its contract. Assumes nothing.
 use native.Mathlib.Omega.{arith}
-use Prim.Native.Nat.{◌-◌}
 use Rattle.sheets.specs.Laws.Lines.{missing_here, missing_on, missing_end}
 use Rattle.sheets.proofs.sheet.first_missing.Goals as goal
 

@@ -1,5 +1,4 @@
 -- `sheets::text::find` meets its contract. Assumes nothing.
-use Prim.Native.Nat.{◌-◌}
 use native.Mathlib.Omega.{arith}
 use borrow.Author.Rules.{rules}
 use Rattle.sheets.proofs.text.Laws.{index_here, index_on, index_end}
