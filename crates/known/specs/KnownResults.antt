@@ -1,8 +1,6 @@
 -- The known results that document 01 marks P, row by row, and that what the definitions give computes to what is expected.
 -- Assumes nothing.
-use Rattle.std.specs.Prelude.{◌≡◌, ℕ, ◌<◌, List, [], ◌∷◌, ◌++◌, map, length, get_or, replicate, ℤ, negsuc, slice_index_or, refl}
-use Rattle.std.proofs.Common.{sym, ap, ◌∙◌}
-use Rattle.std.proofs.Math.ListN.{get_or-map}
+use Rattle.std.specs.Prelude.{◌≡◌, ℕ, List, [], ◌∷◌, ◌++◌, map, replicate, negsuc, slice_index_or, refl}
 use Rattle.words.specs.Bits.{first_not_bit, value_of, bits_of, signed_of}
 use Rattle.words.specs.Crc.{reduced, fed, check_of}
 use Rattle.words.specs.Time.{shifted_out, time_word, nearest_time, time_read}
