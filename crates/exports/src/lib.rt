@@ -1,4 +1,4 @@
-// The library for other programs: what include/l1c.h declares.
+// The library for other programs: what `exports_c` gives to C.
 #![tactic(auto)]
 
 mod code;

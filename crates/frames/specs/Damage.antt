@@ -1,4 +1,4 @@
--- THEOREM: demand 3, the time. Take any frame that is built and turn any of its symbols over.
+-- THEOREMS: demand 3, the time. Take any frame that is built and turn any of its symbols over.
 -- Assumes nothing.
 use Rattle.std.specs.Prelude.{◌≡◌, List, ℕ, ◌≤◌}
 use Rattle.words.specs.Sums.{weight}

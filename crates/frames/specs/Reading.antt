@@ -1,4 +1,4 @@
--- THEOREM: demand 2, reading the time alone. Which frames it is read of, and as which time.
+-- THEOREMS: demand 2, reading the time alone. Which frames it is read of, and as which time.
 -- Assumes nothing.
 use Rattle.std.specs.Prelude.{◌≡◌, List, ◌↔◌, ℕ}
 use Rattle.std.proofs.Common.{sym, ap, ◌∙◌}

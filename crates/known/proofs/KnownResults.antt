@@ -1,4 +1,4 @@
--- THEOREM: every known result that document 01 marks P is what the definitions give.
+-- THEOREMS: every known result that document 01 marks P is what the definitions give.
 -- Assumes nothing.
 use Rattle.std.specs.Prelude.{◌≡◌, ℕ, ◌<◌, List, [], length, get_or, ℤ}
 use Rattle.std.proofs.Common.{sym, ap, ◌∙◌}

@@ -1,3 +1,3 @@
--- The known results of document 01 that are marked P, and the theorem that holds all of them.
+-- The known results of document 01 that are marked P.
 pub mod Rows
 pub mod KnownResults

@@ -1,4 +1,4 @@
--- THEOREMS: what one program printed, given to the other.
+-- THEOREMS: the way back. The bench program gives the frame back for what it printed, and the other way round.
 -- Assumes nothing.
 use Rattle.std.specs.Prelude.{◌≡◌, refl, List, ℕ, ◌≤◌}
 use Rattle.std.proofs.Common.{ap, ◌∙◌}

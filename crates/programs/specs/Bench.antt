@@ -1,4 +1,4 @@
--- THEOREM: what a program hands over to be printed is the text.
+-- THEOREMS: what a program hands over to be printed is the text.
 -- Assumes nothing.
 use Rattle.std.specs.Prelude.{◌≡◌, List, ℕ, length, take, drop, replicate}
 use Rattle.std.proofs.Math.Seq.{take-append_seam}

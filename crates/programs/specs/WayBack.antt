@@ -1,4 +1,4 @@
--- THEOREMS: the way back. What is printed for which frame; and that the bench program gives the frame back for it.
+-- THEOREMS: the way back. What is printed for which frame, and which refusal else.
 -- Assumes nothing.
 use Rattle.std.specs.Prelude.{◌≡◌, ◌↔◌, List, ℕ, get_or}
 use Rattle.std.proofs.Common.{sym, ap, ap₂, ◌∙◌, subst, arith}

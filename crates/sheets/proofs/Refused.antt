@@ -1,4 +1,4 @@
--- THEOREMS: which sheets are refused, and with what.
+-- THEOREMS: demand 1, the sheet. Which sheets are refused, with which number, where.
 -- Assumes nothing.
 use Rattle.std.specs.Prelude.{List, [], ◌↔◌, ◌≢◌, ℕ, ◌<◌, length, get_or, take}
 use Rattle.std.proofs.Common.{ap, ◌∙◌, arith}

@@ -1,4 +1,4 @@
--- THEOREMS: sheets that follow each other are all walked, from the end.
+-- THEOREMS: the walk. It gives every sheet of a file, from the last to the first.
 -- Assumes nothing.
 use Rattle.std.specs.Prelude.{◌≡◌, List, [], ◌∷◌, ◌++◌, map, ℕ, ◌<◌, ℤ, length}
 use Rattle.std.proofs.Common.{sym, ap, ◌∙◌, subst, append_assoc, append-nil, arith, length-append}

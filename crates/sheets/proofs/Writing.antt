@@ -1,4 +1,4 @@
--- THEOREMS: a sheet that is written is read again, and the other way round.
+-- THEOREMS: demand 2, writing a sheet. What was written is read, and what was read is written.
 -- Assumes nothing.
 use Rattle.std.specs.Prelude.{◌≡◌, List, [], ◌++◌, ℕ, ◌≤◌, ℤ, length, take, drop}
 use Rattle.std.proofs.Common.{ap, ap₂, ◌∙◌}

@@ -1,4 +1,4 @@
--- THEOREMS: demand 1, the sheet. Which sheets are refused, with which number, where; and what is beside a refusal.
+-- THEOREMS: demand 1, the sheet: what is beside a refusal.
 -- Assumes nothing.
 use Rattle.std.specs.Prelude.{◌≡◌, List, [], ℕ, take}
 use Rattle.std.proofs.Common.{sym, ap}

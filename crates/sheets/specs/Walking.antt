@@ -1,4 +1,4 @@
--- THEOREMS: the walk. It gives every sheet of a file, from the last to the first; at place 0 it is finished; a refusal stays at its place.
+-- THEOREMS: the walk, a step of it. At place 0 it is finished; a refusal stays at its place.
 -- Assumes nothing.
 use Rattle.std.specs.Prelude.{◌≡◌, Bool, false, cond, List, ℕ, ◌≤◌, ◌<◌, eqb, pos, length, replicate, take}
 use Rattle.std.proofs.Common.{ap, ap₂, ◌∙◌, arith, le-leb, ne_eqb}

@@ -1,5 +1,4 @@
--- THEOREMS: demand 2, writing a sheet. Which numbers are written, which are refused, where; what is then in the lent bytes; and that what
--- was written is read, and what was read is written.
+-- THEOREMS: demand 2, writing a sheet. Which numbers are written, which are refused, where; and what is then in the lent bytes.
 -- Assumes nothing.
 use Rattle.std.specs.Prelude.{◌≡◌, refl, Bool, List, ◌++◌, ◌↔◌, ℕ, ◌≤◌, eqb, leb, ℤ, length, drop}
 use Rattle.std.proofs.Common.{ap, ap₂, ◌∙◌, arith, eq-eqb, eqb-true, le-leb, leb-true}

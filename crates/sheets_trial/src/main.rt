@@ -1,6 +1,6 @@
 // Calls the public functions of `sheets` with good, empty, short, long and garbage-filled slices and with extreme numbers, and prints a
-// line for each: what is expected, and whether it is so. The methods of `Walk` are the exception: a function that holds one is proved by
-// hand, and `walk_back`, which is called here, takes their step.
+// line for each: what is expected, and whether it is so. The methods of `Walk` are the exception: `walk_back`, which is
+// called here, takes their step.
 #![tactic(auto)]
 
 mod lines;

@@ -59,7 +59,7 @@ put_signed_back l at w z fits =
     (put_back (fits_signed l at w z) l at w (unsigned_of w z) (holds_means w z both.1).1 fits (leb-true (at + w) (length l) both.0))
     ∙ signed_back w z both.1
 
--- w bits lies_inside the bytes, w from 1 to 64
+-- w bits lie inside the bytes, w from 1 to 64
 pub record BitsThere (l : List ℕ) (at w : ℕ) : Type 0 where
   pub some : 1 ≤ w
   pub few : w ≤ 64

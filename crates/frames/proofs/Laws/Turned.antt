@@ -13,12 +13,13 @@ use Rattle.frames.specs.Laws.Reading.{alone_is, subframe_numbered, done_is}
 use Rattle.frames.specs.Laws.Blocks.{HaveBits}
 use Rattle.frames.specs.Laws.Turned.{turned_judged, got, not_right}
 
-pub subframe_noticed : (c : Contents) (t : List ℕ) (have : HaveBits c) (flags : FrameFlags t) (s : Subframe) → SomeTurned s t → NamedDamage (data_in s t)
-    → Refuses (alone_answer s (turned (frame_of c) t))
-unfolding got
-subframe_noticed c t have flags s some how zero_number =
-    let block : List ℕ = got c t have flags s in
-    not_right c t have flags s how some
-    (done_is s block
-    (subframe_numbered s block
-    (sym (ap number_of (alone_is s (turned (frame_of c) t) ∙ turned_judged c t have flags (subframe_answer s block))) ∙ zero_number)))
+module _ (c : Contents) (t : List ℕ) (have : HaveBits c) (flags : FrameFlags t) where
+  module _ (s : Subframe) where
+    pub subframe_noticed : SomeTurned s t → NamedDamage (data_in s t) → Refuses (alone_answer s (turned (frame_of c) t))
+    unfolding got
+    subframe_noticed some how zero_number =
+        let block : List ℕ = got c t have flags s in
+        not_right c t have flags s how some
+        (done_is s block
+        (subframe_numbered s block
+        (sym (ap number_of (alone_is s (turned (frame_of c) t) ∙ turned_judged c t have flags (subframe_answer s block))) ∙ zero_number)))

@@ -12,7 +12,7 @@ use Rattle.tables.specs.declared.matrix.Subframe.TheVariants.{Two, Three}
 use Rattle.frames.specs.Frame.{time_in, subframe_in}
 use Rattle.frames.specs.Read.{subframe_answer, frame_judged, frame_answer}
 use Rattle.frames.specs.Due as Rules
-use Rattle.frames.specs.Due.{AreSymbols, NoTime, HasTime, SubframeDue, FrameDue, TimeDue, AloneDue}
+use Rattle.frames.specs.Due.{AreSymbols, HasTime, SubframeDue, FrameDue, AloneDue}
 use Rattle.frames.specs.Laws.Due.{Verdict, fine, due, LentView, lent_due, lent_fine, lent_view, lent_due_refused, lent_some, subframe_some}
 use Rattle.frames.proofs.Laws.Due.{subframe_due_refused, subframe_verdict, good_done, done_good}
 use Rattle.frames.specs.Laws.Reading.{lent_on}

@@ -1,4 +1,4 @@
--- What is refused is what is due, and the other way round.
+-- Any answer, what is lent as a frame, the equations and the fields: what is refused is what is due, and the other way round.
 -- Assumes nothing.
 use Rattle.std.specs.Prelude.{◌≡◌, refl, Bool, cond, List, [], ◌∷◌, ◌⊎◌, ◌≢◌, ◌↔◌, ℕ, zero, suc, ◌≤◌, ◌<◌, eqb, ltb, length, get_or, drop}
 use Rattle.std.proofs.Common.{sym, ap, ◌∙◌, inl, inr, arith, eq-eqb, ne_eqb, lt-ltb, le-ltb}

@@ -1,4 +1,4 @@
--- Frames with symbols turned: what is taken out of them, and what is noticed.
+-- Frames with symbols turned: what is taken out of them, and that it is not what was sent.
 -- Assumes nothing.
 use Rattle.std.specs.Prelude.{◌≡◌, refl, ◌⊎◌, ℕ, zero, suc, ◌%◌, ◌≤◌, ◌<◌, take, drop}
 use Rattle.std.proofs.Math.Path.{sym, ap}

@@ -13,7 +13,7 @@ use Rattle.words.specs.declared.time.Time.{Time}
 use Rattle.frames.specs.Frame.{TIME_SYMBOLS, time_in}
 use Rattle.frames.specs.Read.{time_by, time_alone}
 use Rattle.frames.specs.Due as Rules
-use Rattle.frames.specs.Due.{AreSymbols, NoTime, HasTime, SubframeDue, FrameDue, TimeDue, AloneDue}
+use Rattle.frames.specs.Due.{AreSymbols, NoTime, HasTime, TimeDue}
 use Rattle.frames.specs.Laws.Due.{Verdict, fine, due, LentView, lent_due, lent_fine, lent_view, lent_due_refused, lent_some}
 use Rattle.frames.specs.Laws.Reading.{lent_on, time_is_lem, time_length}
 

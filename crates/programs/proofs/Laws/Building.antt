@@ -1,4 +1,4 @@
--- The input of the bench program: what is refused is what is due.
+-- The input of the bench program: what is refused is what is due, and what is not refused is right.
 -- Assumes nothing.
 use Rattle.std.specs.Prelude.{◌≡◌, refl, Bool, true, false, List, [], ◌⊎◌, ◌≢◌, ℕ, ◌≤◌, ◌<◌, eqb, ℤ, length}
 use Rattle.std.proofs.Common.{sym, ap₂, ◌∙◌, inl, inr, arith, eq-eqb, ne_eqb, le-leb, lt-ltb, le-ltb}

@@ -1,4 +1,4 @@
--- The input of the bench program: what is refused is what is due, and what is not refused is right.
+-- The input of the bench program: the numbers of its sheet as contents, and a sheet that begins with the first byte.
 -- Assumes nothing.
 use Rattle.std.specs.Prelude.{◌≡◌, refl, Bool, true, List, [], ◌∷◌, ◌++◌, ℕ, ◌≤◌, ℤ, pos, length, get_or, take, drop}
 use Rattle.std.proofs.Common.{sym, ap₂, ◌∙◌, subst, arith, le-leb}

@@ -1,4 +1,4 @@
--- Input that is right is what is not refused.
+-- Input that is right has a right page line, and its contents are those that it was written for.
 -- Assumes nothing.
 use Rattle.std.specs.Prelude.{◌≡◌, ℕ, length}
 use Rattle.std.proofs.Math.Path.{ap, ap₂}

@@ -1,4 +1,4 @@
--- Lines, judged one after the other.
+-- The lines of a sheet, judged one by one.
 -- Assumes nothing.
 use Rattle.std.specs.Prelude.{◌≡◌, eqb, take, drop}
 use Rattle.std.proofs.Math.Path.{refl, ap, ap₂}

@@ -1,4 +1,4 @@
--- What is due of the lines and of a sheet is what is refused.
+-- What is due for a sheet is refused, and a sheet that nothing is due for is done.
 -- Assumes nothing.
 use Rattle.std.specs.Prelude.{◌≡◌, refl, Bool, true, false, List, [], ◌∷◌, ◌≢◌, ℕ, suc, ◌+◌, ◌<◌, eqb, length, get_or, take}
 use Rattle.std.proofs.Common.{sym, ap, ◌∙◌, arith, eq-eqb, ne_eqb}

@@ -1,4 +1,4 @@
--- One line, judged: it is fine, or something is due; and the lines of a sheet, one by one.
+-- One line, judged: it is fine, or something is due.
 -- Assumes nothing.
 use Rattle.std.specs.Prelude.{◌≡◌, Bool, true, false, not, ◌≢◌, ◌⊎◌, take}
 use Rattle.std.proofs.Math.Path.{refl, ap}

@@ -1,4 +1,4 @@
--- What is due for a sheet is refused, and a sheet that nothing is due for is done.
+-- The trailer of a sheet, and the lines before one that something is due for.
 -- Assumes nothing.
 use Rattle.std.specs.Prelude.{◌≡◌, refl, Bool, true, false, List, [], ℕ, get_or, take}
 use Rattle.std.proofs.Common.{ap, ◌∙◌}
