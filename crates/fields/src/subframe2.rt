@@ -133,7 +133,8 @@ pub fn read_fields(bits: &[u8]) -> Fields
 pub fn judge_counts(counts: &[i64]) -> Answer
     ensures { result ≡ counts_judged counts.now }
 {
-    if counts.len() != 33 {
+    let unfit = counts.len() != 33;
+    if unfit {
         return refuse(LENGTH, 0);
     }
     let out = first_out(Table::Subframe2, 0, counts);

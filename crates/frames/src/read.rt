@@ -61,7 +61,8 @@ fn no_page(number: u8, place: usize) -> PageBits
 fn judge_lent(frame: &[u8]) -> Answer
     ensures { result ≡ frame_judged frame.now Done }
 {
-    if frame.len() != 1800 {
+    let unfit = frame.len() != 1800;
+    if unfit {
         return refuse(LENGTH, 0);
     }
     let bad = first_not_bit(frame);

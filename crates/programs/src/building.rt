@@ -53,7 +53,9 @@ fn build_behind(page: &[u8], bytes: &[u8], frame: &mut [u8]) -> Answer
         × (frame.new ≡ left_by (behind_answer page.now bytes.now)
         (frame_of (sheet_contents page.now bytes.now)) frame.old) }
 {
-    if sheet_start(bytes) != 0 {
+    let start = sheet_start(bytes);
+    let elsewhere = start != 0;
+    if elsewhere {
         return refuse(TRAILER, 0);
     }
     let sheet = read_sheet(bytes);
@@ -73,7 +75,8 @@ fn build_input(input: &[u8], frame: &mut [u8]) -> Answer
     ensures { (result ≡ input_answer input.now)
         × (frame.new ≡ left_by (input_answer input.now) (frame_of (input_contents input.now)) frame.old) }
 {
-    if 8192 < input.len() {
+    let too_long = 8192 < input.len();
+    if too_long {
         return refuse(LENGTH, 0);
     }
     let mut page = [0u8; 250];

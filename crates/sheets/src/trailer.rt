@@ -34,7 +34,8 @@ pub fn sheet_start(bytes: &[u8]) -> usize
     match read_count(&bytes[place..]) {
         Digits::AreNot => none,
         Digits::Are(count) => {
-            if 4096 < count {
+            let too_many = 4096 < count;
+            if too_many {
                 return none;
             }
             let back = count as usize;

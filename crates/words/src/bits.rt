@@ -28,7 +28,8 @@ pub fn first_not_bit(bytes: &[u8]) -> usize
     }
     let mut i: usize = 0;
     while i < bytes.len() {
-        if 1 < bytes[i] {
+        let no_bit = 1 < bytes[i];
+        if no_bit {
             return i;
         }
         i += 1;
@@ -107,7 +108,8 @@ fn signed_of(bits: &[u8]) -> i64
     if bits.len() == 0 {
         return 0;
     }
-    if low_bit(bits[0]) == 1 {
+    let negative = low_bit(bits[0]) == 1;
+    if negative {
         below_zero(largest(bits.len()) - number)
     } else {
         not_below_zero(number)
@@ -141,11 +143,8 @@ pub fn magnitude(z: i64) -> u64
 fn holds_number(number: u64, width: usize) -> bool
     ensures { result ≡ ltb number (2 ^ width) }
 {
-    if 64 <= width {
-        true
-    } else {
-        number >> width == 0
-    }
+    let whole = 64 <= width;
+    if whole { true } else { number >> width == 0 }
 }
 
 // `width` bits hold the number with a sign.

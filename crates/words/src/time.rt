@@ -101,7 +101,8 @@ fn nearest_time(symbols: u64) -> Time
     let mut toi: u16 = 0;
     while toi < 400 {
         let corrected = u64::count_ones(symbols ^ word);
-        if corrected <= 9 {
+        let near = corrected <= 9;
+        if near {
             return Time {
                 answer: Answer::Done,
                 toi,

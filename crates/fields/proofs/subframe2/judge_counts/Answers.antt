@@ -5,20 +5,20 @@ use Rattle.fields.specs.Laws.Table.{count_subframe2}
 use Rattle.fields.proofs.subframe2.Laws.{too_many, some_out, none_out}
 use Rattle.fields.proofs.subframe2.judge_counts.Goals as goal
 
-pub returns-then-counts-ne33 : goal.returns-then-counts-ne33
-returns-then-counts-ne33 c = c.refuse.ensures ∙ too_many c.args.counts.now c.if-counts-ne33.true
+pub returns-then-unfit : goal.returns-then-unfit
+returns-then-unfit c = c.refuse.ensures ∙ too_many c.args.counts.now c.if-unfit.true
 
 pub first_out-out-requires : goal.first_out-out-requires
-first_out-out-requires c = (c.if-counts-ne33.false ∙ sym count_subframe2, omega arith)
+first_out-out-requires c = (c.if-unfit.false ∙ sym count_subframe2, omega arith)
 
 pub returns-then-out-ne0 : goal.returns-then-out-ne0
 returns-then-out-ne0 c =
     let first = c.first_out-out in
     c.refuse-then-out-ne0.ensures
-    ∙ some_out c.args.counts.now first.result first.ensures c.if-counts-ne33.false
+    ∙ some_out c.args.counts.now first.result first.ensures c.if-unfit.false
     c.if-out-ne0.true
 
 pub returns : goal.returns
 returns c =
     let first = c.first_out-out in
-    none_out c.args.counts.now first.result first.ensures c.if-counts-ne33.false c.if-out-ne0.false
+    none_out c.args.counts.now first.result first.ensures c.if-unfit.false c.if-out-ne0.false

@@ -6,17 +6,17 @@ use Rattle.words.specs.Bits.{first_not_bit}
 use Rattle.words.specs.Refusal.{NOT_A_BIT, refused_at}
 use Rattle.frames.proofs.read.judge_lent.Goals as goal
 
-pub returns-then-frame-ne1800 : goal.returns-then-frame-ne1800
-returns-then-frame-ne1800 c =
+pub returns-then-unfit : goal.returns-then-unfit
+returns-then-unfit c =
     let f = c.args.frame.now in
-    rw (ne_eqb (length f) 1800 c.if-frame-ne1800.true) c.refuse.ensures
+    rw (ne_eqb (length f) 1800 c.if-unfit.true) c.refuse.ensures
 
 pub returns-then-bad-frame : goal.returns-then-bad-frame
 returns-then-bad-frame c =
     let f = c.args.frame.now in
     let place = c.first_not_bit-bad.ensures in
     rw (
-      eq-eqb (length f) 1800 c.if-frame-ne1800.false,
+      eq-eqb (length f) 1800 c.if-unfit.false,
       ne_eqb (first_not_bit f) (length f) (λ e. c.if-bad-frame.true (place ∙ e)),
     ) (c.refuse-then-bad-frame.ensures ∙ ap (refused_at NOT_A_BIT) place)
 
@@ -24,4 +24,4 @@ pub returns : goal.returns
 returns c =
     let f = c.args.frame.now in
     let place = c.first_not_bit-bad.ensures in
-    rw (eq-eqb (length f) 1800 c.if-frame-ne1800.false, eq-eqb (first_not_bit f) (length f) (sym place ∙ c.if-bad-frame.false)) refl
+    rw (eq-eqb (length f) 1800 c.if-unfit.false, eq-eqb (first_not_bit f) (length f) (sym place ∙ c.if-bad-frame.false)) refl

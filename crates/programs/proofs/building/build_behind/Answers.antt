@@ -11,11 +11,11 @@ use Rattle.sheets.specs.declared.sheet.Sheet.{Sheet}
 use Rattle.programs.proofs.building.Laws.{read_first, begins_later, sheet_refused, sheet_built}
 use Rattle.programs.proofs.building.build_behind.Goals as goal
 
-pub returns-then-sheet_start-ne0 : goal.returns-then-sheet_start-ne0
-returns-then-sheet_start-ne0 c =
+pub returns-then-elsewhere : goal.returns-then-elsewhere
+returns-then-elsewhere c =
     let a = c.args in
     begins_later a.page.now a.bytes.now a.frame.now c.refuse.result
-    (λ e. c.if-sheet_start-ne0.true (c.sheet_start.ensures ∙ e)) c.refuse.ensures
+    (λ e. c.if-elsewhere.true (c.sheet_start-start.ensures ∙ e)) c.refuse.ensures
 
 -- the sheet begins right there, and is read
 module _ (c : goal.After-build_numbers-arg-1) where
@@ -23,7 +23,7 @@ module _ (c : goal.After-build_numbers-arg-1) where
   bytes = c.args.bytes.now
 
   begins : start_of bytes ≡ 0
-  begins = sym c.sheet_start.ensures ∙ c.if-sheet_start-ne0.false
+  begins = sym c.sheet_start-start.ensures ∙ c.if-elsewhere.false
 
   answer_is : (a : Answer) → c.read_sheet-sheet.result.answer ≡ a → (sheet_read bytes).answer ≡ a
   answer_is a e = sym (ap (λ (s : Sheet). s.answer) c.read_sheet-sheet.ensures) ∙ e
@@ -40,7 +40,7 @@ module _ (c : goal.After-refuse-in-Refused) where
   bytes_at2 = c.args.bytes.now
 
   begins_at2 : start_of bytes_at2 ≡ 0
-  begins_at2 = sym c.sheet_start.ensures ∙ c.if-sheet_start-ne0.false
+  begins_at2 = sym c.sheet_start-start.ensures ∙ c.if-elsewhere.false
 
   answer_is_at2 : (a : Answer) → c.read_sheet-sheet.result.answer ≡ a → (sheet_read bytes_at2).answer ≡ a
   answer_is_at2 a e = sym (ap (λ (s : Sheet). s.answer) c.read_sheet-sheet.ensures) ∙ e
@@ -57,7 +57,7 @@ module _ (c : goal.After-slice_known-in-Done-1) where
   bytes_at3 = c.args.bytes.now
 
   begins_at3 : start_of bytes_at3 ≡ 0
-  begins_at3 = sym c.sheet_start.ensures ∙ c.if-sheet_start-ne0.false
+  begins_at3 = sym c.sheet_start-start.ensures ∙ c.if-elsewhere.false
 
   answer_is_at3 : (a : Answer) → c.read_sheet-sheet.result.answer ≡ a → (sheet_read bytes_at3).answer ≡ a
   answer_is_at3 a e = sym (ap (λ (s : Sheet). s.answer) c.read_sheet-sheet.ensures) ∙ e

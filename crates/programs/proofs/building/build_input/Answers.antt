@@ -14,10 +14,10 @@ use Rattle.programs.specs.Building.{first_line, page_line_answer}
 use Rattle.programs.proofs.building.Laws.{page_taken_lem, too_long, page_refused, input_built}
 use Rattle.programs.proofs.building.build_input.Goals as goal
 
-pub returns-then-input-gt8192 : goal.returns-then-input-gt8192
-returns-then-input-gt8192 c =
+pub returns-then-too_long : goal.returns-then-too_long
+returns-then-too_long c =
     let a = c.args in
-    too_long a.input.now a.frame.now c.refuse.result c.if-input-gt8192.true c.refuse.ensures
+    too_long a.input.now a.frame.now c.refuse.result c.if-too_long.true c.refuse.ensures
 
 -- the input is not too long, and its page line is judged
 module _ (c : goal.After-page-in-Done-1) where
@@ -76,7 +76,7 @@ module _ (c : goal.After-refuse-in-Refused) where
 
 pub returns-in-Refused : goal.returns-in-Refused
 returns-in-Refused c =
-    page_refused (input_at3 c) c.args.frame.now c.refuse-in-Refused.result c.if-input-gt8192.false c.in-Refused.r
+    page_refused (input_at3 c) c.args.frame.now c.refuse-in-Refused.result c.if-too_long.false c.in-Refused.r
     (answer_is_at3 c (Refused c.in-Refused.r) c.in-Refused.is) c.refuse-in-Refused.ensures
 
 -- the input is not too long, and its page line is judged
@@ -101,6 +101,6 @@ pub returns-in-Done : goal.returns-in-Done
 returns-in-Done c =
     let line = page_taken_lem (input_at4 c) (page_done_at3 c) in
     let bytes = take (length (input_at4 c) - 251) (drop 251 (input_at4 c)) in
-    input_built (input_at4 c) c.args.frame.now c.build_behind.result c.if-input-gt8192.false
+    input_built (input_at4 c) c.args.frame.now c.build_behind.result c.if-too_long.false
     c.take_page_line.new.page bytes c.build_behind.new.frame (page_done_at3 c) (page_is_at3 c) line.behind
     c.build_behind.ensures

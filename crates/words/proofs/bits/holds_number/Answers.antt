@@ -9,13 +9,13 @@ use borrow.Author.Tests.{lt-ltb, ltb-true, eq-eqb, eqb-true}
 use Rattle.words.specs.Laws.Tests.{same_test}
 use Rattle.words.proofs.bits.holds_number.Goals as goal
 
-pub returns-then-width-ge64 : goal.returns-then-width-ge64
-returns-then-width-ge64 c =
+pub returns-then-whole : goal.returns-then-whole
+returns-then-whole c =
     let args = c.args in
-    sym (lt-ltb args.number (2 ^ args.width) (omega (arith, pow_mono {i = 64} {j = args.width} c.if-width-ge64.true, c.ranges.number.fits)))
+    sym (lt-ltb args.number (2 ^ args.width) (omega (arith, pow_mono {i = 64} {j = args.width} c.if-whole.true, c.ranges.number.fits)))
 
-pub returns-else-width-ge64 : goal.returns-else-width-ge64
-returns-else-width-ge64 c =
+pub returns-else-whole : goal.returns-else-whole
+returns-else-whole c =
     let n = c.args.number in
     let p = 2 ^ c.args.width in
     same_test (eqb (n / p) 0) (ltb n p)

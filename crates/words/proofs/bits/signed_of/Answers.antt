@@ -22,7 +22,7 @@ overflow_sub-largest c = omega (arith, value_lt c.args.bits.now, c.value_of-numb
 pub below_zero-requires : goal.below_zero-requires
 below_zero-requires c =
     let l = c.args.bits.now in
-    let one : get_or l 0 0 % 2 ≡ 1 = sym c.low_bit.ensures ∙ c.if-low_bit-eq1.true in
+    let one : get_or l 0 0 % 2 ≡ 1 = sym c.low_bit-negative.ensures ∙ c.if-negative.true in
     omega (
       arith,
       rw (signed_one l one) at (signed_fits l c.requires),
@@ -33,26 +33,26 @@ below_zero-requires c =
 pub not_below_zero-requires : goal.not_below_zero-requires
 not_below_zero-requires c =
     let l = c.args.bits.now in
-    let not_one : get_or l 0 0 % 2 ≡ 1 → ⊥ = λ e. c.if-low_bit-eq1.false (c.low_bit.ensures ∙ e) in
+    let not_one : get_or l 0 0 % 2 ≡ 1 → ⊥ = λ e. c.if-negative.false (c.low_bit-negative.ensures ∙ e) in
     omega (
       arith,
       rw (signed_zero l not_one) at (signed_fits l c.requires),
       c.value_of-number.ensures,
     )
 
-pub returns-then-low_bit-eq1 : goal.returns-then-low_bit-eq1
-returns-then-low_bit-eq1 c =
+pub returns-then-negative : goal.returns-then-negative
+returns-then-negative c =
     let l = c.args.bits.now in
-    let one : get_or l 0 0 % 2 ≡ 1 = sym c.low_bit.ensures ∙ c.if-low_bit-eq1.true in
+    let one : get_or l 0 0 % 2 ≡ 1 = sym c.low_bit-negative.ensures ∙ c.if-negative.true in
     let rest : c.largest.result - c.value_of-number.result
     ≡ 2 ^ length l - suc (value_of l) =
     omega (arith, c.value_of-number.ensures, c.largest.ensures) in
     to_z-of_z w64 c.below_zero.result (sfits_of c.below_zero.type_inv) ∙ c.below_zero.ensures
     ∙ ap negsuc rest ∙ sym (signed_one l one)
 
-pub returns-else-low_bit-eq1 : goal.returns-else-low_bit-eq1
-returns-else-low_bit-eq1 c =
+pub returns-else-negative : goal.returns-else-negative
+returns-else-negative c =
     let l = c.args.bits.now in
-    let not_one : get_or l 0 0 % 2 ≡ 1 → ⊥ = λ e. c.if-low_bit-eq1.false (c.low_bit.ensures ∙ e) in
+    let not_one : get_or l 0 0 % 2 ≡ 1 → ⊥ = λ e. c.if-negative.false (c.low_bit-negative.ensures ∙ e) in
     to_z-of_z w64 c.not_below_zero.result (sfits_of c.not_below_zero.type_inv) ∙ c.not_below_zero.ensures
     ∙ ap pos c.value_of-number.ensures ∙ sym (signed_zero l not_one)

@@ -14,16 +14,16 @@ use Rattle.words.proofs.time.nearest_time.Goals as goal
 pub loop-toi-init : goal.loop-toi-init
 loop-toi-init c = (omega arith, zero_packed, refl)
 
-pub returns-then-corrected-le9 : goal.returns-then-corrected-le9
-returns-then-corrected-le9 c =
+pub returns-then-near : goal.returns-then-near
+returns-then-near c =
     let loop = c.loop-toi in
     let n = c.args.symbols in
     let d = packed_distance n loop.toi loop.word c.requires loop.invariant.1 in
     ap (time_is loop.toi) d
-    ∙ sym (nearest_here (bits_of 52 n) loop.toi c.loop-toi-test.true (omega (arith, d, c.if-corrected-le9.true))) ∙ loop.invariant.2
+    ∙ sym (nearest_here (bits_of 52 n) loop.toi c.loop-toi-test.true (omega (arith, d, c.if-near.true))) ∙ loop.invariant.2
 
 -- where the next word's turn stands, and what it is
-module _ (c : goal.Else-corrected-le9-unread) where
+module _ (c : goal.Else-near-unread) where
   abbrev toi : ℕ
   toi = c.loop-toi.toi
 
@@ -37,7 +37,7 @@ pub bounds-turns-k : goal.bounds-turns-k
 bounds-turns-k c = (next_turn c).0
 
 -- where the next word's turn stands, and what it is
-module _ (c : goal.Else-corrected-le9) where
+module _ (c : goal.Else-near) where
   abbrev toi_at2 : ℕ
   toi_at2 = c.loop-toi.toi
 
@@ -55,7 +55,7 @@ loop-toi-preserved c =
     let d = packed_distance n loop.toi loop.word c.requires loop.invariant.1 in (
       omega arith,
       ap₂ bit_xor loop.invariant.1 (next_turn_at2 c).1 ∙ packed_next loop.toi (loop.toi + 1),
-      sym (nearest_on (bits_of 52 n) loop.toi c.loop-toi-test.true (omega (arith, d, c.if-corrected-le9.false))) ∙ loop.invariant.2,
+      sym (nearest_on (bits_of 52 n) loop.toi c.loop-toi-test.true (omega (arith, d, c.if-near.false))) ∙ loop.invariant.2,
     )
 
 pub returns : goal.returns
