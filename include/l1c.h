@@ -1,8 +1,8 @@
 /* L1C navigation frames of IS-GPS-800: building and reading them, and the sheets of their contents.
 
-   The archive libexports.a defines these functions, for x86-64-v2; `rt lib`, in crates/exports_c, proves it and writes it as libexports_c.a,
-   which tools/link-archive copies to out/libexports.a. Each meets a contract that fixes what it returns and every element lent to it
-   afterwards (crates/exports_c, docs/CONTRACTS.md).
+   The archive libexports.a defines these functions, for x86-64; `rt lib --cpu=x86-64`, in crates/exports_c, proves it and writes it as
+   libexports_c.a, which tools/link-archive copies to out/libexports.a. Each meets a contract that fixes what it returns and every element
+   lent to it afterwards (crates/exports_c, docs/CONTRACTS.md).
 
    Contents are 34 numbers, in the order of a sheet: toi, then the 33 counts of subframe 2 from wn to isf. A symbol or a bit is one byte,
    0 or 1. A page is the 250 bits of subframe 3 before its check bits; a frame is 1800 symbols.

@@ -84,7 +84,7 @@ pub struct Page {
 }
 
 // What taking page bits gives: the page, or a refusal with zeros beside it.
-#[derive(Drop)]
+#[derive(Clone, Copy)]
 pub struct Taken {
     pub answer: Answer,
     pub page: Page,

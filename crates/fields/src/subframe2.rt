@@ -78,7 +78,7 @@ pub const ISCD: usize = 31;
 pub const ISF: usize = 32;
 
 // What reading the fields gives: the counts, or a refusal with zeros beside it.
-#[derive(Drop)]
+#[derive(Clone, Copy)]
 pub struct Fields {
     pub answer: Answer,
     pub counts: [i64; 33],

@@ -2,7 +2,7 @@
 use words::bits::copy;
 use words::refusal::{Answer, Refusal};
 
-#[derive(Drop)]
+#[derive(Clone, Copy)]
 pub(crate) struct Text {
     pub(crate) bytes: [u8; 64],
     pub(crate) size: usize,

@@ -1,4 +1,4 @@
--- So far the counts are the same.
+-- `show::same_counts` meets its contract. The invariant: so far the counts are the same. Assumes nothing.
 use Rattle.std.proofs.Common.{length, take, ◌-◌, ◌≡◌, ◌≤◌}
 use Rattle.show.proofs.same_counts.Given as goal
 

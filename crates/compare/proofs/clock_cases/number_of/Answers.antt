@@ -1,4 +1,4 @@
--- But for the sign, the bits of a NaN are more than those of infinity.
+-- `compare::clock_cases::number_of` is safe: but for the sign, the bits of a NaN are more than those of infinity. Assumes nothing.
 use Rattle.std.proofs.Common.{◌%◌, Bool, not, T, sym, ◌∙◌, subst, le-ltb}
 use lib.Ieee.{binary64}
 use lib.Ieee.Bits.{nan_bits_above}

@@ -1,3 +1,4 @@
+-- `compare::contents::unpack` is safe and ends. The measure is how many digits are left. Assumes nothing.
 use Rattle.std.proofs.Common.{◌-◌}
 use Rattle.compare.proofs.contents.unpack.Given as goal
 

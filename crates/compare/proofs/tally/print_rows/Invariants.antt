@@ -1,3 +1,4 @@
+-- `compare::tally::print_rows` is safe and ends. The measure is how many rows are left. Assumes nothing.
 use Rattle.std.proofs.Common.{◌-◌}
 use Rattle.compare.proofs.tally.print_rows.Given as goal
 
