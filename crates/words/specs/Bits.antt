@@ -4,8 +4,7 @@
 use Rattle.std.specs.Prelude.{Bool, cond, ◌&&◌, List, [], ◌∷◌, ℕ, zero, suc, ◌+◌, ◌-◌, ◌*◌, ◌/◌, ◌%◌, ◌^◌, ◌<◌, min, leb, ltb, eqb, ℤ, pos, negsuc, ◌-ℤ◌, length, get_or, take, drop}
 use Rattle.std.proofs.lemmas.List.Edits.{sets}
 use Rattle.std.specs.Int.Signed.{mag}
-use Rattle.words.specs.Refusal.{LENGTH, done_if, left_if}
-use Rattle.words.specs.declared.refusal.Answer.{Answer}
+use Rattle.words.specs.Refusal.{LENGTH, done_if, left_if, Answer}
 
 -- every byte is 0 or 1
 pub record IsBits (l : List ℕ) : Type 0 where

@@ -4,8 +4,7 @@
 use Rattle.std.specs.Prelude.{◌≡◌, List, [], ◌∷◌, ◌++◌, ℕ, ◌+◌, ◌-◌, ◌*◌, ◌/◌, ◌%◌, ◌^◌, leb, length, replicate, take}
 use Rattle.std.specs.Int.Bits.{bit_xor}
 use Rattle.words.specs.Bits.{IsBits, bits_of, put_answer}
-use Rattle.words.specs.Refusal.{left_if}
-use Rattle.words.specs.declared.refusal.Answer.{Answer}
+use Rattle.words.specs.Refusal.{left_if, Answer}
 
 -- x^24 + x^23 + x^18 + x^17 + x^14 + x^11 + x^10 + x^7 + x^6 + x^5 + x^4 + x^3 + x + 1
 abbrev pub poly : ℕ

@@ -1,8 +1,9 @@
 -- What a refusal is: the table "Numbers given on refusal" of document 01.
 -- Assumes nothing.
-use Rattle.std.specs.Prelude.{Bool, true, false, cond, List, ℕ}
-use Rattle.words.specs.declared.refusal.Answer.{Answer}
-use Rattle.words.specs.declared.refusal.Answer.TheVariants.{Done, Refused}
+use Rattle.std.specs.Prelude.{Bool, true, false, cond, List, ℕ, Result, Ok, Err, ⊤}
+use Rattle.words.specs.declared.refusal.Refusal.{Refusal}
+use Rattle.words.specs.declared.refusal.Rule.{Rule}
+use Rattle.words.specs.declared.refusal.Rule.TheVariants.{Length, NotABit, Time, Equation2, Check2, Field2, Equation3, Check3, Field3, Trailer, Line, Name, NameAgain, Number, NameMissing, Room}
 
 -- a lent buffer has not the stated length, or a reader's place is past its end
 abbrev pub LENGTH : ℕ
@@ -68,9 +69,49 @@ NAME_MISSING = 15
 abbrev pub ROOM : ℕ
 ROOM = 16
 
+-- the table's number of a rule
+abbrev pub number : Rule → ℕ
+number Length = LENGTH
+number NotABit = NOT_A_BIT
+number Time = TIME
+number Equation2 = EQUATION_2
+number Check2 = CHECK_2
+number Field2 = FIELD_2
+number Equation3 = EQUATION_3
+number Check3 = CHECK_3
+number Field3 = FIELD_3
+number Trailer = TRAILER
+number Line = LINE
+number Name = NAME
+number NameAgain = NAME_AGAIN
+number Number = NUMBER
+number NameMissing = NAME_MISSING
+number Room = ROOM
+
 -- the refusal with this number, at this place
-abbrev pub refused_at : ℕ → ℕ → Answer
-refused_at number place = Refused (record { number = number; place = place })
+abbrev pub refusal_at : ℕ → ℕ → Refusal
+refusal_at number place = record { number = number; place = place }
+
+-- nothing is given but that refusal
+abbrev pub refused_at : {A : Type 0} → ℕ → ℕ → Result A Refusal
+refused_at number place = Err (refusal_at number place)
+
+-- an answer: nothing is refused, or the refusal
+abbrev pub Answer : Type 0
+Answer = Result ⊤ Refusal
+
+abbrev pub Done : Answer
+Done = Ok tt
+
+-- the answer of what is given or refused
+abbrev pub answer_of : {A : Type 0} → Result A Refusal → Answer
+answer_of (Ok x) = Done
+answer_of (Err r) = Err r
+
+-- what is given by an answer: this where nothing is refused, and else the refusal
+abbrev pub given_by : {A : Type 0} → Answer → A → Result A Refusal
+given_by (Ok tt) x = Ok x
+given_by (Err r) x = Err r
 
 -- done where the test holds, and else the refusal with this number, at this place
 abbrev pub done_if : Bool → ℕ → ℕ → Answer
@@ -78,8 +119,8 @@ done_if test number place = cond test Done (refused_at number place)
 
 -- judged in turn: the first refusal of the two, done where neither refuses
 abbrev pub in_turn : Answer → Answer → Answer
-in_turn Done next = next
-in_turn (Refused r) next = Refused r
+in_turn (Ok tt) next = next
+in_turn (Err r) next = Err r
 
 -- how lent bytes are judged before anything is done with them: 1 at 0 unless the lengths are right, then 2 at the first byte that is
 -- neither 0 nor 1, and then what else is answered
@@ -93,15 +134,15 @@ left_if false new l = l
 
 -- the same by an answer: the new bytes where nothing is refused, and else the bytes as they were
 abbrev pub left_by : Answer → List ℕ → List ℕ → List ℕ
-left_by Done new l = new
-left_by (Refused r) new l = l
+left_by (Ok tt) new l = new
+left_by (Err r) new l = l
 
 -- the table's number of an answer, 0 where nothing was refused
 abbrev pub number_of : Answer → ℕ
-number_of Done = 0
-number_of (Refused r) = r.number
+number_of (Ok tt) = 0
+number_of (Err r) = r.number
 
 -- the table's place of an answer, 0 where nothing was refused
 abbrev pub place_of : Answer → ℕ
-place_of Done = 0
-place_of (Refused r) = r.place
+place_of (Ok tt) = 0
+place_of (Err r) = r.place

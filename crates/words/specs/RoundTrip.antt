@@ -7,10 +7,10 @@ use Rattle.std.proofs.Math.Nat.{min-eq_left}
 use Rattle.std.proofs.lemmas.List.Edits.{sets}
 use Rattle.std.proofs.Math.Seq.{length-sets}
 use Rattle.words.specs.Bits.{IsBits, value_of, bits_of, signed_of, unsigned_of, holds_signed, bits_at, is_inside, fits_number, fits_signed, put_answer, put_bytes, number_answer, number_bytes, signed_answer, signed_bytes}
-use Rattle.words.specs.declared.refusal.Answer.TheVariants.{Done}
 use Rattle.words.specs.Laws.Digits.{first_is_bit, other_bits, value_lt, value_bits, bits_cons}
 use Rattle.words.specs.Laws.Puts.{put_back, sets_other, sets_same}
 use Rattle.words.specs.Laws.Signs.{unsigned_signed, signed_mag, signed_bits, holds_means, holds_when}
+use Rattle.words.specs.Refusal.{Done}
 
 -- The w bits of a number below 2 ^ w stand for it.
 pub number_back : (w n : ℕ) → n < 2 ^ w → value_of (bits_of w n) ≡ n

@@ -1,11 +1,10 @@
 -- The time word (document 01, "Time word"; IS-GPS-800, 3.2.3.2 and Figure 3.2-4).
 -- Assumes nothing.
-use Rattle.std.specs.Prelude.{◌≡◌, cond, ◌&&◌, List, [], ◌∷◌, ◌++◌, map, ℕ, zero, suc, ◌+◌, ◌-◌, ◌/◌, ◌%◌, ◌^◌, ◌≤◌, leb, eqb, length, get_or, drop}
+use Rattle.std.specs.Prelude.{◌≡◌, cond, ◌&&◌, Result, Ok, Err, List, [], ◌∷◌, ◌++◌, map, ℕ, zero, suc, ◌+◌, ◌-◌, ◌/◌, ◌%◌, ◌^◌, ◌≤◌, leb, eqb, length, get_or, drop}
 use Rattle.words.specs.Bits.{bits_of, first_not_bit}
 use Rattle.words.specs.Sums.{add2, differing}
-use Rattle.words.specs.Refusal.{LENGTH, NOT_A_BIT, TIME, refused_at, done_if, left_if}
-use Rattle.words.specs.declared.refusal.Answer.{Answer}
-use Rattle.words.specs.declared.refusal.Answer.TheVariants.{Done}
+use Rattle.words.specs.Refusal.{LENGTH, NOT_A_BIT, TIME, Answer, refused_at, done_if, left_if, answer_of, number_of}
+use Rattle.words.specs.declared.refusal.Refusal.{Refusal}
 use Rattle.words.specs.declared.time.Time.{Time}
 
 -- the register holds the last eight symbols, the oldest first: the symbol k places before the next one
@@ -50,23 +49,32 @@ pub record IsTime (s : List ℕ) (toi places : ℕ) : Type 0 where
   pub counted : differing s (time_word toi) ≡ places
   pub near : places ≤ 9
 
--- what reading gives: a time, with the number of symbols that differ from its word; or a refusal, with zeros beside it
-abbrev pub time_is : ℕ → ℕ → Time
-time_is toi corrected = record { answer = Done; toi = toi; corrected = corrected }
+-- what reading gives: a time, with the number of symbols that differ from its word; or a refusal
+abbrev pub time_is : ℕ → ℕ → Result Time Refusal
+time_is toi corrected = Ok (record { toi = toi; corrected = corrected })
 
-abbrev pub no_time : ℕ → ℕ → Time
-no_time number place = record { answer = refused_at number place; toi = 0; corrected = 0 }
+-- the number on refusal of what was read, 0 where it was not refused; the time and how many symbols differ, 0 where it was
+abbrev pub number_read : Result Time Refusal → ℕ
+number_read r = number_of (answer_of r)
+
+abbrev pub toi_read : Result Time Refusal → ℕ
+toi_read (Ok t) = t.toi
+toi_read (Err r) = 0
+
+abbrev pub corrected_read : Result Time Refusal → ℕ
+corrected_read (Ok t) = t.corrected
+corrected_read (Err r) = 0
 
 -- of the n times from `toi` on, the first whose word differs in at most nine symbols; refused 3 at 0 if there is none
-unfoldable pub nearest_time : ℕ → ℕ → List ℕ → Time
-nearest_time zero toi s = no_time TIME 0
+unfoldable pub nearest_time : ℕ → ℕ → List ℕ → Result Time Refusal
+nearest_time zero toi s = refused_at TIME 0
 nearest_time (suc n) toi s =
     cond (leb (differing s (time_word toi)) 9) (time_is toi (differing s (time_word toi))) (nearest_time n (suc toi) s)
 
 -- reading: 1 unless there are 52 symbols, then 2 at the first byte that is no bit, then the time from 0 to 399
-unfoldable pub time_read : List ℕ → Time
+unfoldable pub time_read : List ℕ → Result Time Refusal
 unfolding nearest_time
 time_read s =
     cond (eqb (length s) 52)
-    (cond (eqb (first_not_bit s) (length s)) (nearest_time 400 0 s) (no_time NOT_A_BIT (first_not_bit s)))
-    (no_time LENGTH 0)
+    (cond (eqb (first_not_bit s) (length s)) (nearest_time 400 0 s) (refused_at NOT_A_BIT (first_not_bit s)))
+    (refused_at LENGTH 0)

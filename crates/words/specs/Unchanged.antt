@@ -1,10 +1,8 @@
 -- THEOREMS: a refusal leaves every lent byte as it was. An answer refuses where document 01's table has a number for it.
 -- Assumes nothing.
-use Rattle.std.specs.Prelude.{◌≡◌, refl, Bool, true, false, cond, ◌&&◌, List, ℕ, eqb, leb, length}
-use Rattle.words.specs.Refusal.{LENGTH, TIME, refused_at, done_if, judged, left_if, left_by, number_of}
+use Rattle.std.specs.Prelude.{◌≡◌, refl, Bool, true, false, cond, ◌&&◌, List, ℕ, eqb, leb, length, Err, Ok}
+use Rattle.words.specs.Refusal.{LENGTH, TIME, refused_at, done_if, judged, left_if, left_by, number_of, Answer, Done}
 use Rattle.words.specs.Time.{time_word, time_answer, time_bytes}
-use Rattle.words.specs.declared.refusal.Answer.{Answer}
-use Rattle.words.specs.declared.refusal.Answer.TheVariants.{Done, Refused}
 
 -- the answer is a refusal
 abbrev pub Refuses : Answer → Type 0
@@ -19,8 +17,8 @@ refused_stay false bits first_not new l h = refl
 
 -- Where bytes are left by an answer that refuses, they are as they were.
 pub refused_by_answer : (a : Answer) (new l : List ℕ) → Refuses a → left_by a new l ≡ l
-refused_by_answer Done new l h = absurd (h refl)
-refused_by_answer (Refused r) new l h = refl
+refused_by_answer (Ok tt) new l h = absurd (h refl)
+refused_by_answer (Err r) new l h = refl
 
 -- Where writing a time is refused, the bytes are as they were.
 pub write_time_unchanged : (l : List ℕ) (toi : ℕ) → Refuses (time_answer l toi) → time_bytes l toi ≡ l

@@ -4,7 +4,7 @@ ghost use Rattle.std.proofs.lemmas.List.Edits.{sets};
 ghost use Rattle.std.specs.Int.Signed.{mag};
 ghost use Rattle.words.specs.Bits.{first_not_bit, value_of, bits_of, signed_of, unsigned_of, bits_at, holds_signed, number_answer, number_bytes, signed_answer, signed_bytes, copy_answer, copy_bytes};
 
-use super::refusal::{Answer, LENGTH, refuse};
+use super::refusal::{Refusal, Rule};
 
 // No byte is over 1. The pass does not end early, so that the compiler can take many bytes at a time.
 fn are_bits(bytes: &[u8]) -> bool
@@ -220,25 +220,25 @@ fn fits_signed(count: usize, at: usize, width: usize, z: i64) -> bool
 }
 
 // The `width` bits of the number from `at` on; refused 1 at 0 where they are not within the bytes or do not hold it.
-pub fn put_number(bytes: &mut [u8], at: usize, width: usize, number: u64) -> Answer
+pub fn put_number(bytes: &mut [u8], at: usize, width: usize, number: u64) -> Result<(), Refusal>
     ensures { (result ≡ number_answer bytes.old at width number) × (bytes.new ≡ number_bytes bytes.old at width number) }
 {
     if fits_number(bytes.len(), at, width, number) {
         put_bits(bytes, at, width, number);
-        return Answer::Done;
+        return Ok(());
     }
-    refuse(LENGTH, 0)
+    Err(Rule::Length.at(0))
 }
 
 // The same with a sign.
-pub fn put_signed(bytes: &mut [u8], at: usize, width: usize, number: i64) -> Answer
+pub fn put_signed(bytes: &mut [u8], at: usize, width: usize, number: i64) -> Result<(), Refusal>
     ensures { (result ≡ signed_answer bytes.old at width number) × (bytes.new ≡ signed_bytes bytes.old at width number) }
 {
     if fits_signed(bytes.len(), at, width, number) {
         put_bits(bytes, at, width, unsigned_of(number, width));
-        return Answer::Done;
+        return Ok(());
     }
-    refuse(LENGTH, 0)
+    Err(Rule::Length.at(0))
 }
 
 // ---- copying
@@ -256,12 +256,12 @@ fn copy_over(from: &[u8], into: &mut [u8])
 }
 
 // Copies bytes over as many others; refused 1 at 0 where they are not as many.
-pub fn copy(from: &[u8], into: &mut [u8]) -> Answer
+pub fn copy(from: &[u8], into: &mut [u8]) -> Result<(), Refusal>
     ensures { (result ≡ copy_answer from.now into.old) × (into.new ≡ copy_bytes from.now into.old) }
 {
     if from.len() == into.len() {
         copy_over(from, into);
-        return Answer::Done;
+        return Ok(());
     }
-    refuse(LENGTH, 0)
+    Err(Rule::Length.at(0))
 }

@@ -3,7 +3,7 @@ ghost use Rattle.std.specs.Prelude.{◌≡◌, ◌^◌, ◌<◌, eqb};
 ghost use Rattle.words.specs.Crc.{fed, remainder_of, check_of, check_answer, check_bytes};
 
 use super::bits::put_number;
-use super::refusal::{Answer, LENGTH, refuse};
+use super::refusal::{Refusal, Rule};
 
 // x^24 + x^23 + x^18 + x^17 + x^14 + x^11 + x^10 + x^7 + x^6 + x^5 + x^4 + x^3 + x + 1
 const POLYNOMIAL: u32 = 0x1864CFB;
@@ -48,11 +48,11 @@ pub fn check_bits(bits: &[u8]) -> u32
 }
 
 // The check bits of all but the last 24 places, put into those; refused 1 at 0 for a block of fewer than 24.
-pub fn put_check(block: &mut [u8]) -> Answer
+pub fn put_check(block: &mut [u8]) -> Result<(), Refusal>
     ensures { (result ≡ check_answer block.old) × (block.new ≡ check_bytes block.old) }
 {
     if block.len() < 24 {
-        return refuse(LENGTH, 0);
+        return Err(Rule::Length.at(0));
     }
     let count = block.len() - 24;
     let check = check_bits(&block[..count]) as u64;

@@ -1,55 +1,56 @@
 // What a refusal is: its number, by the table "Numbers given on refusal", and its place.
 ghost use Rattle.std.specs.Prelude.{◌≡◌};
-ghost use Rattle.words.specs.Refusal.{refused_at};
+ghost use Rattle.words.specs.Refusal.{number, refusal_at, refused_at};
 
-// What each number is given for stands beside its definition, in specs/Refusal.antt.
-pub const LENGTH: u8 = 1;
+// The rows of the table, in its order. What each is given for stands beside its number, in specs/Refusal.antt.
+#[derive(Clone, Copy, PartialEq, Eq)]
+pub enum Rule {
+    Length = 1,
+    NotABit,
+    Time,
+    Equation2,
+    Check2,
+    Field2,
+    Equation3,
+    Check3,
+    Field3,
+    Trailer,
+    Line,
+    Name,
+    NameAgain,
+    Number,
+    NameMissing,
+    Room,
+}
 
-pub const NOT_A_BIT: u8 = 2;
+impl Rule {
+    // The table's number.
+    pub fn number(self) -> u8
+        ensures { result ≡ number self }
+    {
+        self as u8
+    }
 
-pub const TIME: u8 = 3;
+    // The refusal by this rule, at this place.
+    pub fn at(self, place: usize) -> Refusal
+        ensures { result ≡ refusal_at (number self) place }
+    {
+        Refusal {
+            number: self.number(),
+            place,
+        }
+    }
+}
 
-pub const EQUATION_2: u8 = 4;
-
-pub const CHECK_2: u8 = 5;
-
-pub const FIELD_2: u8 = 6;
-
-pub const EQUATION_3: u8 = 7;
-
-pub const CHECK_3: u8 = 8;
-
-pub const FIELD_3: u8 = 9;
-
-pub const TRAILER: u8 = 10;
-
-pub const LINE: u8 = 11;
-
-pub const NAME: u8 = 12;
-
-pub const NAME_AGAIN: u8 = 13;
-
-pub const NUMBER: u8 = 14;
-
-pub const NAME_MISSING: u8 = 15;
-
-pub const ROOM: u8 = 16;
-
-#[derive(Clone, Copy)]
+#[derive(Clone, Copy, PartialEq, Eq)]
 pub struct Refusal {
     pub number: u8,
     pub place: usize,
 }
 
-#[derive(Clone, Copy)]
-pub enum Answer {
-    Done,
-    Refused(Refusal),
-}
-
-// The refusal with this number, at this place.
-pub fn refuse(number: u8, place: usize) -> Answer
+// Refuses with this number, at this place, whatever else would be given.
+pub fn refuse<T>(number: u8, place: usize) -> Result<T, Refusal>
     ensures { result ≡ refused_at number place }
 {
-    Answer::Refused(Refusal { number, place })
+    Err(Refusal { number, place })
 }

@@ -1,18 +1,17 @@
 // The time word.
 ghost use Rattle.std.specs.Prelude.{◌≡◌, ◌^◌, ◌<◌, length};
 ghost use Rattle.words.specs.Bits.{bits_of};
-ghost use Rattle.words.specs.Time.{one_shift, time_word, time_answer, time_bytes, no_time, nearest_time, time_read};
+ghost use Rattle.words.specs.Time.{one_shift, time_word, time_answer, time_bytes, nearest_time, time_read};
 
 use super::bits::{first_not_bit, take_number};
-use super::refusal::{Answer, LENGTH, NOT_A_BIT, TIME, refuse};
+use super::refusal::{Refusal, Rule};
 
 // The times are 0 to this one.
 pub const LAST_TOI: u16 = 399;
 
-// What reading a time word gives: the time, and how many of the 52 symbols differ from its word; zeros beside a refusal.
+// What reading a time word gives: the time, and how many of the 52 symbols differ from its word.
 #[derive(Clone, Copy)]
 pub struct Time {
-    pub answer: Answer,
     pub toi: u16,
     pub corrected: u32,
 }
@@ -51,17 +50,17 @@ fn write_word(out: &mut [u8], toi: u16)
 }
 
 // The word of a time from 0 to 399, into 52 bytes; refused 1 at 0 for another number of bytes, then 3 at 0 for another time.
-pub fn write_time(out: &mut [u8], toi: u16) -> Answer
+pub fn write_time(out: &mut [u8], toi: u16) -> Result<(), Refusal>
     ensures { (result ≡ time_answer out.old toi) × (out.new ≡ time_bytes out.old toi) }
 {
     if out.len() != 52 {
-        return refuse(LENGTH, 0);
+        return Err(Rule::Length.at(0));
     }
     if LAST_TOI < toi {
-        return refuse(TIME, 0);
+        return Err(Rule::Time.at(0));
     }
     write_word(out, toi);
-    Answer::Done
+    Ok(())
 }
 
 // ---- reading: words are packed into a number, the first symbol the most significant
@@ -80,19 +79,8 @@ const TURNS: [u64; 9] = [
     0x805167036C6A1,
 ];
 
-// A refusal, with zeros beside it.
-pub fn no_time(number: u8, place: usize) -> Time
-    ensures { result ≡ no_time number place }
-{
-    Time {
-        answer: refuse(number, place),
-        toi: 0,
-        corrected: 0,
-    }
-}
-
 // The time from 0 to 399 whose word differs in at most nine symbols.
-fn nearest_time(symbols: u64) -> Time
+fn nearest_time(symbols: u64) -> Result<Time, Refusal>
     requires { symbols < 2 ^ 52 }
     ensures { result ≡ nearest_time 400 0 (bits_of 52 symbols) }
 {
@@ -103,29 +91,25 @@ fn nearest_time(symbols: u64) -> Time
         let corrected = u64::count_ones(symbols ^ word);
         let near = corrected <= 9;
         if near {
-            return Time {
-                answer: Answer::Done,
-                toi,
-                corrected,
-            };
+            return Ok(Time { toi, corrected });
         }
         toi += 1;
         let k = u16::trailing_zeros(toi) as usize;
         word = word ^ turns[k];
     }
-    no_time(TIME, 0)
+    Err(Rule::Time.at(0))
 }
 
 // The time that 52 symbols stand for; refused 1, 2, then 3 at 0 where no word from 0 to 399 is within nine.
-pub fn read_time(symbols: &[u8]) -> Time
+pub fn read_time(symbols: &[u8]) -> Result<Time, Refusal>
     ensures { result ≡ time_read symbols.now }
 {
     if symbols.len() != 52 {
-        return no_time(LENGTH, 0);
+        return Err(Rule::Length.at(0));
     }
     let place = first_not_bit(symbols);
     if place != symbols.len() {
-        return no_time(NOT_A_BIT, place);
+        return Err(Rule::NotABit.at(place));
     }
     nearest_time(take_number(symbols, 0, 52))
 }

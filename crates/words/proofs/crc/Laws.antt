@@ -11,11 +11,11 @@ use lib.ListN.{length, get_or, take, drop, replicate, drop_of_length-le}
 use lib.Seq.{drop-cons, sets, sets-eq}
 use borrow.Author.Tests.{le-leb, lt-ltb}
 use Rattle.words.specs.Bits.{bits_of, fits_number, put_answer, put_bytes}
-use Rattle.words.specs.declared.refusal.Answer.{Answer}
 use Rattle.words.specs.Crc.{fed, remainder_from, remainder_of, check_of, block_of, check_answer, check_bytes}
 use Rattle.words.specs.Laws.Crc.{remainder_append, check_lt}
 use Rattle.words.specs.Laws.Digits.{length_bits}
 use Rattle.words.specs.Laws.Puts.{done_leaves}
+use Rattle.words.specs.Refusal.{Answer}
 
 -- ---- bits from a place on
 

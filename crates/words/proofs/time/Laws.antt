@@ -15,8 +15,8 @@ use lib.Seq.{take-suc-set, append_snoc, take_all}
 use borrow.Author.Tests.{le-leb, lt-leb, eqb-true, ltb-true}
 use Rattle.words.specs.Bits.{IsBits, value_of, bits_of, bits_at}
 use Rattle.words.specs.Sums.{add2, sums, differing}
-use Rattle.words.specs.Refusal.{TIME}
-use Rattle.words.specs.Time.{symbol_back, next_symbol, one_shift, shifted_out, top_bit, time_word, time_is, no_time, nearest_time}
+use Rattle.words.specs.Refusal.{TIME, refused_at}
+use Rattle.words.specs.Time.{symbol_back, next_symbol, one_shift, shifted_out, top_bit, time_word, time_is, nearest_time}
 use Rattle.words.specs.RoundTrip.{number_back, bits_back}
 use Rattle.words.specs.Linear.{word_linear}
 use Rattle.words.specs.Laws.Tests.{all_below, below_at}
@@ -143,7 +143,7 @@ nearest_on s t h far =
     (lt-leb (differing s (time_word t)) 9 far)
     ∙ ap (λ (n : ℕ). nearest_time (400 - (t + 1)) n s) (sym (add-one t))
 
-pub nearest_end : (s : List ℕ) (t : ℕ) → 400 ≤ t → nearest_time (400 - t) t s ≡ no_time TIME 0
+pub nearest_end : (s : List ℕ) (t : ℕ) → 400 ≤ t → nearest_time (400 - t) t s ≡ refused_at TIME 0
 unfolding nearest_time
 nearest_end s t h = ap (λ (n : ℕ). nearest_time n t s) (let e : 400 - t ≡ 0 = omega arith in e)
 

@@ -9,16 +9,16 @@ use Rattle.std.proofs.Math.Dec.{eqb}
 use Rattle.std.proofs.Math.ListN.{length}
 use borrow.Author.Tests.{eqb-true, eqb-false, eq-eqb}
 use Rattle.words.specs.Bits.{IsBits, first_not_bit}
-use Rattle.words.specs.Refusal.{LENGTH, NOT_A_BIT, TIME}
-use Rattle.words.specs.Time.{IsTime, time_is, no_time, nearest_time, time_read}
+use Rattle.words.specs.Refusal.{LENGTH, NOT_A_BIT, TIME, refused_at}
+use Rattle.words.specs.Time.{IsTime, time_is, nearest_time, time_read}
 use Rattle.words.specs.Distance.{one_within}
 use Rattle.words.specs.Laws.Digits.{none_not_bit, not_bit_le}
 use Rattle.words.specs.Laws.Nearest.{nearest_found, nearest_none, nearest_hit, nearest_is}
 
 pub data Judged (s : List ℕ) : Type 0 where
-  wrong_length : (length s ≡ 52 → ⊥) → time_read s ≡ no_time LENGTH 0 → Judged s
-  wrong_byte : length s ≡ 52 → first_not_bit s < 52 → time_read s ≡ no_time NOT_A_BIT (first_not_bit s) → Judged s
-  time_missing : length s ≡ 52 → IsBits s → ((toi places : ℕ) → IsTime s toi places → ⊥) → time_read s ≡ no_time TIME 0 → Judged s
+  wrong_length : (length s ≡ 52 → ⊥) → time_read s ≡ refused_at LENGTH 0 → Judged s
+  wrong_byte : length s ≡ 52 → first_not_bit s < 52 → time_read s ≡ refused_at NOT_A_BIT (first_not_bit s) → Judged s
+  time_missing : length s ≡ 52 → IsBits s → ((toi places : ℕ) → IsTime s toi places → ⊥) → time_read s ≡ refused_at TIME 0 → Judged s
   a_time : length s ≡ 52 → IsBits s → (toi places : ℕ) → IsTime s toi places → time_read s ≡ time_is toi places → Judged s
 
 module _ (s : List ℕ) where

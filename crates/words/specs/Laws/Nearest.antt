@@ -3,16 +3,15 @@
 use Rattle.std.specs.Prelude.{◌≡◌, refl, Bool, true, false, cond, List, ◌⊎◌, ℕ, zero, suc, ◌+◌, ◌≤◌, ◌<◌, leb}
 use Rattle.std.proofs.Common.{sym, ap, ◌∙◌, subst, inl, inr, ⊎_elim, eq-or-lt_of_le, arith, leb-true, leb-false}
 use Rattle.words.specs.Sums.{differing}
-use Rattle.words.specs.Refusal.{TIME, number_of}
-use Rattle.words.specs.Time.{time_word, time_is, no_time, nearest_time}
-use Rattle.words.specs.declared.time.Time.{Time}
+use Rattle.words.specs.Refusal.{TIME, refused_at}
+use Rattle.words.specs.Time.{time_word, time_is, nearest_time, number_read, toi_read, corrected_read}
 
 -- what is found is within nine, with its number of places
 pub nearest_found : (n t : ℕ) (s : List ℕ) (u d : ℕ) → nearest_time n t s ≡ time_is u d
     → (u < t + n) × (differing s (time_word u) ≡ d) × (d ≤ 9)
 unfolding nearest_time
 nearest_found zero t s u d e =
-    absurd (let y : 3 ≡ 0 = ap (λ (r : Time). number_of r.answer) e in omega arith)
+    absurd (let y : 3 ≡ 0 = ap number_read e in omega arith)
 nearest_found (suc n) t s u d e = go (leb (differing s (time_word t)) 9) refl e (nearest_found n (suc t) s u d)
   where
     go : (b : Bool) → leb (differing s (time_word t)) 9 ≡ b
@@ -20,23 +19,23 @@ nearest_found (suc n) t s u d e = go (leb (differing s (time_word t)) 9) refl e 
         → (nearest_time n (suc t) s ≡ time_is u d → (u < suc t + n) × (differing s (time_word u) ≡ d) × (d ≤ 9))
         → (u < t + suc n) × (differing s (time_word u) ≡ d) × (d ≤ 9)
     go true l e ih =
-        let tu : t ≡ u = ap (λ (r : Time). r.toi) e in
-        let du : differing s (time_word t) ≡ d = ap (λ (r : Time). r.corrected) e in
+        let tu : t ≡ u = ap toi_read e in
+        let du : differing s (time_word t) ≡ d = ap corrected_read e in
         (omega arith, ap (λ (x : ℕ). differing s (time_word x)) (sym tu) ∙ du, omega (arith, leb-true (differing s (time_word t)) 9 l))
     go false l e ih = let r = ih e in (omega arith, r.1, r.2)
 
 -- a refusal means that none is within nine
-pub nearest_none : (n t : ℕ) (s : List ℕ) → nearest_time n t s ≡ no_time TIME 0 → (u : ℕ) → t ≤ u → u < t + n
+pub nearest_none : (n t : ℕ) (s : List ℕ) → nearest_time n t s ≡ refused_at TIME 0 → (u : ℕ) → t ≤ u → u < t + n
     → 9 < differing s (time_word u)
 unfolding nearest_time
 nearest_none zero t s e u h k = absurd (omega arith)
 nearest_none (suc n) t s e u h k = go (leb (differing s (time_word t)) 9) refl e (λ f. nearest_none n (suc t) s f u)
   where
     go : (b : Bool) → leb (differing s (time_word t)) 9 ≡ b
-        → cond b (time_is t (differing s (time_word t))) (nearest_time n (suc t) s) ≡ no_time TIME 0
-        → (nearest_time n (suc t) s ≡ no_time TIME 0 → suc t ≤ u → u < suc t + n → 9 < differing s (time_word u))
+        → cond b (time_is t (differing s (time_word t))) (nearest_time n (suc t) s) ≡ refused_at TIME 0
+        → (nearest_time n (suc t) s ≡ refused_at TIME 0 → suc t ≤ u → u < suc t + n → 9 < differing s (time_word u))
         → 9 < differing s (time_word u)
-    go true l e ih = absurd (let y : 0 ≡ 3 = ap (λ (r : Time). number_of r.answer) e in omega arith)
+    go true l e ih = absurd (let y : 0 ≡ 3 = ap number_read e in omega arith)
     go false l e ih =
         ⊎_elim
         (λ q. subst (λ (x : ℕ). 9 < differing s (time_word x)) q (leb-false (differing s (time_word t)) 9 l))
@@ -66,13 +65,13 @@ nearest_hit (suc n) t s u h k near only =
 
 -- there is no third way
 pub nearest_is : (n t : ℕ) (s : List ℕ)
-    → ((u : ℕ) × (d : ℕ) × (nearest_time n t s ≡ time_is u d)) ⊎ (nearest_time n t s ≡ no_time TIME 0)
+    → ((u : ℕ) × (d : ℕ) × (nearest_time n t s ≡ time_is u d)) ⊎ (nearest_time n t s ≡ refused_at TIME 0)
 unfolding nearest_time
 nearest_is zero t s = inr refl
 nearest_is (suc n) t s = go (leb (differing s (time_word t)) 9) (nearest_is n (suc t) s)
   where
-    go : (b : Bool) → ((u : ℕ) × (d : ℕ) × (nearest_time n (suc t) s ≡ time_is u d)) ⊎ (nearest_time n (suc t) s ≡ no_time TIME 0)
+    go : (b : Bool) → ((u : ℕ) × (d : ℕ) × (nearest_time n (suc t) s ≡ time_is u d)) ⊎ (nearest_time n (suc t) s ≡ refused_at TIME 0)
         → ((u : ℕ) × (d : ℕ) × (cond b (time_is t (differing s (time_word t))) (nearest_time n (suc t) s) ≡ time_is u d))
-        ⊎ (cond b (time_is t (differing s (time_word t))) (nearest_time n (suc t) s) ≡ no_time TIME 0)
+        ⊎ (cond b (time_is t (differing s (time_word t))) (nearest_time n (suc t) s) ≡ refused_at TIME 0)
     go true rest = inl (t, differing s (time_word t), refl)
     go false rest = rest

@@ -5,9 +5,7 @@ use Rattle.std.proofs.Common.{sym, ap, ◌∙◌, append_assoc, inl, inr, ⊎_el
 use Rattle.std.proofs.Math.Nat.{min-eq_left}
 use Rattle.std.proofs.lemmas.List.Edits.{sets, sets-eq}
 use Rattle.words.specs.Bits.{bits_of, bits_at, put_answer, put_bytes}
-use Rattle.words.specs.Refusal.{LENGTH, refused_at, left_if}
-use Rattle.words.specs.declared.refusal.Answer.{Answer}
-use Rattle.words.specs.declared.refusal.Answer.TheVariants.{Done}
+use Rattle.words.specs.Refusal.{LENGTH, refused_at, left_if, Answer, Done}
 use Rattle.words.specs.Laws.Digits.{length_bits}
 
 sets_part : (l : List ℕ) (at : ℕ) (bits : List ℕ) → at + length bits ≤ length l

@@ -1,10 +1,8 @@
 -- Answers that are judged in turn.
 -- Assumes nothing.
-use Rattle.std.specs.Prelude.{◌≡◌, refl, Bool, true, false, ℕ}
+use Rattle.std.specs.Prelude.{◌≡◌, refl, Bool, true, false, ℕ, Err, Ok}
 use Rattle.std.proofs.Common.{sym, ap, arith}
-use Rattle.words.specs.Refusal.{refused_at, done_if, in_turn, judged, number_of}
-use Rattle.words.specs.declared.refusal.Answer.{Answer}
-use Rattle.words.specs.declared.refusal.Answer.TheVariants.{Done, Refused}
+use Rattle.words.specs.Refusal.{refused_at, done_if, in_turn, judged, number_of, Answer, Done}
 
 -- an answer is one of the two
 pub data Answered (a : Answer) : Type 0 where
@@ -12,20 +10,20 @@ pub data Answered (a : Answer) : Type 0 where
   refused : (n p : ℕ) → a ≡ refused_at n p → Answered a
 
 pub answered : (a : Answer) → Answered a
-answered Done = done refl
-answered (Refused r) = refused r.number r.place refl
+answered (Ok tt) = done refl
+answered (Err r) = refused r.number r.place refl
 
 -- no refusal is done
 pub not_done : (n p : ℕ) → refused_at n p ≡ Done → ⊥
 not_done n p e = let z : ◌≡◌ {A = ℕ} 0 1 = ap refused_or_not (sym e) in omega arith
   where
     refused_or_not : Answer → ℕ
-    refused_or_not Done = 0
-    refused_or_not (Refused r) = 1
+    refused_or_not (Ok tt) = 0
+    refused_or_not (Err r) = 1
 
 pub both_done : (a b : Answer) → in_turn a b ≡ Done → (a ≡ Done) × (b ≡ Done)
-both_done Done b e = (refl, e)
-both_done (Refused r) b e = absurd (not_done r.number r.place e)
+both_done (Ok tt) b e = (refl, e)
+both_done (Err r) b e = absurd (not_done r.number r.place e)
 
 pub test_done : (t : Bool) (n p : ℕ) → done_if t n p ≡ Done → t ≡ true
 test_done true n p e = refl
@@ -52,5 +50,5 @@ test_numbered true n p h e = refl
 test_numbered false n p h e = absurd (h e)
 
 pub turn_numbered : (a b : Answer) → Numbered a → Numbered b → Numbered (in_turn a b)
-turn_numbered Done b ha hb e = hb e
-turn_numbered (Refused r) b ha hb e = ha e
+turn_numbered (Ok tt) b ha hb e = hb e
+turn_numbered (Err r) b ha hb e = ha e

@@ -3,6 +3,7 @@
 use mathlib.Core.Path.{◌≡◌, refl, sym, ap, ap₂, ◌∙◌}
 use Prim.Native.Nat.{ℕ, ◌+◌, ◌-◌, ◌<◌}
 use native.Mathlib.Omega.{arith}
+use Rattle.std.specs.Prelude.{Err}
 use lib.Bits.{bit_xor}
 use lib.Count.{count_trailing_zeros}
 use lib.ListN.{get_or}
@@ -61,5 +62,5 @@ loop-toi-preserved c =
 pub returns : goal.returns
 returns c =
     let loop = c.loop-toi in
-    c.no_time.ensures
+    ap Err c.at.ensures
     ∙ sym (nearest_end (bits_of 52 c.args.symbols) loop.toi c.loop-toi-test.false) ∙ loop.invariant.2
