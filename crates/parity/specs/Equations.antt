@@ -3,8 +3,7 @@
 -- Assumes nothing.
 use Rattle.std.specs.Prelude.{◌≡◌, Bool, cond, List, ℕ, zero, suc, ◌+◌, ◌%◌, ◌≤◌, eqb, ltb, length, take, drop}
 use Rattle.words.specs.Bits.{first_not_bit}
-use Rattle.words.specs.Refusal.{EQUATION_2, EQUATION_3, done_if, judged}
-use Rattle.words.specs.declared.refusal.Answer.{Answer}
+use Rattle.words.specs.Refusal.{EQUATION_2, EQUATION_3, done_if, judged, Answer}
 use Rattle.tables.specs.Coordinates.{row_sum}
 use Rattle.tables.specs.Matrix.{Matrix, matrix_of}
 use Rattle.tables.specs.declared.matrix.Subframe.{Subframe}

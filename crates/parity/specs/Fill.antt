@@ -3,9 +3,7 @@
 -- Assumes nothing.
 use Rattle.std.specs.Prelude.{◌≡◌, ◌&&◌, List, [], ◌∷◌, ◌++◌, ℕ, ◌+◌, ◌-◌, ◌%◌, eqb, length}
 use Rattle.words.specs.Bits.{IsBits, first_not_bit}
-use Rattle.words.specs.Refusal.{left_if, judged}
-use Rattle.words.specs.declared.refusal.Answer.{Answer}
-use Rattle.words.specs.declared.refusal.Answer.TheVariants.{Done}
+use Rattle.words.specs.Refusal.{left_if, judged, Answer, Done}
 use Rattle.tables.specs.Coordinates.{row_sum, added, solved}
 use Rattle.tables.specs.Matrix.{Matrix, matrix_of}
 use Rattle.tables.specs.Rules.{product_of}

@@ -1,15 +1,14 @@
 -- THEOREMS: the order of symbols is a permutation with its inverse; it keeps every symbol, bits and sums; what is interleaved and
 -- taken apart is as it was; a refusal leaves every lent byte as it was.
 -- Assumes nothing.
-use Rattle.std.specs.Prelude.{◌≡◌, refl, List, ◌++◌, ℕ, ◌+◌, ◌*◌, ◌≤◌, ◌<◌, length, get_or, take, drop}
+use Rattle.std.specs.Prelude.{◌≡◌, refl, Ok, List, ◌++◌, ℕ, ◌+◌, ◌*◌, ◌≤◌, ◌<◌, length, get_or, take, drop}
 use Rattle.std.proofs.Common.{ap, ap₂, ◌∙◌, arith, length-append, take_at, drop_at, ne_eqb, le-ltb}
 use Rattle.words.specs.Bits.{IsBits, first_not_bit}
-use Rattle.words.specs.Refusal.{LENGTH, NOT_A_BIT, refused_at}
+use Rattle.words.specs.Refusal.{LENGTH, NOT_A_BIT, refused_at, Done}
 use Rattle.words.specs.Sums.{sums}
 use Rattle.words.specs.Unchanged.{Refuses, refused_stay}
 use Rattle.words.specs.Laws.Digits.{bits_append, bits_none}
-use Rattle.words.specs.declared.refusal.Answer.TheVariants.{Done}
-use Rattle.parity.specs.Order.{SYMBOLS_2, SYMBOLS_3, SYMBOLS, ROWS, COLUMNS, leaves_at, stood_at, interleaved, deinterleaved, first_block, second_block, place_is, no_place, place_in_order, place_before, right_lengths, HaveLengths, all_bits, interleave_answer, interleave_bytes, deinterleave_answer, deinterleave_block2, deinterleave_block3}
+use Rattle.parity.specs.Order.{SYMBOLS_2, SYMBOLS_3, SYMBOLS, ROWS, COLUMNS, leaves_at, stood_at, interleaved, deinterleaved, first_block, second_block, place_in_order, place_before, right_lengths, HaveLengths, all_bits, interleave_answer, interleave_bytes, deinterleave_answer, deinterleave_block2, deinterleave_block3}
 use Rattle.parity.specs.Laws.Order.{length_symbols, symbols_whole, symbols_are, symbols_sums, places_back, asked_back, blocks_fit, blocks_are, blocks_joined, lengths_fit, lengths_wrong, done_answer, done_leaves, not_bit_behind}
 
 -- ---- places
@@ -93,14 +92,14 @@ deinterleaved_linear a b e = symbols_sums leaves_at a b e 0 SYMBOLS
 -- ---- the functions
 
 -- Asked where a symbol leaves, and then where that one stood, the functions lead back; and the other way round.
-pub place_back : (k : ℕ) → k < SYMBOLS → place_before (place_in_order k).index ≡ place_is k
-place_back k h = asked_back stood_at leaves_at k h (leaves_inside k h) (stood_leaves k h)
+pub place_back : (k : ℕ) → k < SYMBOLS → (i : ℕ) × (place_in_order k ≡ Ok i) × (place_before i ≡ Ok k)
+place_back k h = let asked = asked_back stood_at leaves_at k h (leaves_inside k h) (stood_leaves k h) in (leaves_at k, asked.0, asked.1)
 
-pub place_again : (i : ℕ) → i < SYMBOLS → place_in_order (place_before i).index ≡ place_is i
-place_again i h = asked_back leaves_at stood_at i h (stood_inside i h) (leaves_stood i h)
+pub place_again : (i : ℕ) → i < SYMBOLS → (k : ℕ) × (place_before i ≡ Ok k) × (place_in_order k ≡ Ok i)
+place_again i h = let asked = asked_back leaves_at stood_at i h (stood_inside i h) (leaves_stood i h) in (stood_at i, asked.0, asked.1)
 
--- Past the last symbol there is no place: both are refused 1 at 0, with 0 beside it.
-pub no_place_past : (k : ℕ) → SYMBOLS ≤ k → (place_in_order k ≡ no_place) × (place_before k ≡ no_place)
+-- Past the last symbol there is no place: both are refused 1 at 0, and give nothing else.
+pub no_place_past : (k : ℕ) → SYMBOLS ≤ k → (place_in_order k ≡ refused_at LENGTH 0) × (place_before k ≡ refused_at LENGTH 0)
 no_place_past k h = (rw (le-ltb k SYMBOLS h) refl, rw (le-ltb k SYMBOLS h) refl)
 
 -- A byte of the second block that is no bit is counted from the first block's start: the second block's first byte is 1200.

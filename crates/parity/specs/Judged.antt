@@ -3,10 +3,9 @@
 use Rattle.std.specs.Prelude.{◌≡◌, refl, Bool, true, false, List, ◌≢◌, ℕ, ◌+◌, eqb, length}
 use Rattle.std.proofs.Common.{◌∙◌, arith, length-take-le, eq-eqb, ne_eqb, eqb-true}
 use Rattle.words.specs.Bits.{IsBits, first_not_bit}
-use Rattle.words.specs.Refusal.{LENGTH, NOT_A_BIT, refused_at, done_if, number_of, judged}
+use Rattle.words.specs.Refusal.{LENGTH, NOT_A_BIT, refused_at, done_if, number_of, judged, Done}
 use Rattle.words.specs.Unchanged.{Refuses, refused_stay}
 use Rattle.words.specs.Laws.Digits.{bits_none, none_not_bit}
-use Rattle.words.specs.declared.refusal.Answer.TheVariants.{Done}
 use Rattle.tables.specs.Matrix.{matrix_of}
 use Rattle.tables.specs.Published.{proper}
 use Rattle.tables.specs.declared.matrix.Subframe.{Subframe}

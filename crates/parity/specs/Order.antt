@@ -1,11 +1,9 @@
 -- The order of symbols (document 01, "Order"; IS-GPS-800, 3.2.3.5).
 -- Assumes nothing.
-use Rattle.std.specs.Prelude.{◌≡◌, Bool, cond, ◌&&◌, List, [], ◌∷◌, ◌++◌, ℕ, zero, suc, ◌+◌, ◌*◌, ◌/◌, ◌%◌, ltb, eqb, length, get_or, take, drop}
+use Rattle.std.specs.Prelude.{◌≡◌, Result, Ok, Bool, cond, ◌&&◌, List, [], ◌∷◌, ◌++◌, ℕ, zero, suc, ◌+◌, ◌*◌, ◌/◌, ◌%◌, ltb, eqb, length, get_or, take, drop}
 use Rattle.words.specs.Bits.{first_not_bit}
-use Rattle.words.specs.Refusal.{LENGTH, NOT_A_BIT, refused_at, done_if, left_if, judged}
-use Rattle.words.specs.declared.refusal.Answer.{Answer}
-use Rattle.words.specs.declared.refusal.Answer.TheVariants.{Done}
-use Rattle.parity.specs.declared.order.Place.{Place}
+use Rattle.words.specs.Refusal.{Answer, Done, LENGTH, NOT_A_BIT, refused_at, done_if, left_if, judged}
+use Rattle.words.specs.declared.refusal.Refusal.{Refusal}
 
 -- the symbols of subframe 2 (3.2.3.5)
 abbrev pub SYMBOLS_2 : ℕ
@@ -56,24 +54,16 @@ first_block s = take SYMBOLS_2 (deinterleaved s)
 unfoldable pub second_block : List ℕ → List ℕ
 second_block s = drop SYMBOLS_2 (deinterleaved s)
 
--- what asking for a place gives: that place
-abbrev pub place_is : ℕ → Place
-place_is index = record { answer = Done; index = index }
-
--- or a refusal, 1 at 0, with 0 beside it
-abbrev pub no_place : Place
-no_place = record { answer = refused_at LENGTH 0; index = 0 }
-
--- the one for each of the symbols, the other past the last of them
-abbrev pub place_by : (ℕ → ℕ) → ℕ → Place
-place_by place index = cond (ltb index SYMBOLS) (place_is (place index)) no_place
+-- what asking for a place gives: that place for each of the symbols, and past the last of them a refusal, 1 at 0
+abbrev pub place_by : (ℕ → ℕ) → ℕ → Result ℕ Refusal
+place_by place index = cond (ltb index SYMBOLS) (Ok (place index)) (refused_at LENGTH 0)
 
 -- where the symbol at k leaves
-abbrev pub place_in_order : ℕ → Place
+abbrev pub place_in_order : ℕ → Result ℕ Refusal
 place_in_order k = place_by leaves_at k
 
 -- where the symbol stood that leaves at i
-abbrev pub place_before : ℕ → Place
+abbrev pub place_before : ℕ → Result ℕ Refusal
 place_before i = place_by stood_at i
 
 -- the lengths of both blocks and of the symbols are right

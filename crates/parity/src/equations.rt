@@ -1,5 +1,6 @@
 // The equations of a block, and the first that isn't met.
 ghost use Rattle.std.specs.Prelude.{◌≡◌, ◌+◌, ◌-◌, ◌%◌, length, replicate};
+ghost use Rattle.words.specs.Refusal.{number};
 ghost use Rattle.tables.specs.Coordinates.{symbol_at};
 ghost use Rattle.tables.specs.Matrix.{matrix_of};
 ghost use Rattle.parity.specs.Equations.{last_sum, first_odd, first_unmet, equation_number, is_block, met_answer};
@@ -7,7 +8,7 @@ ghost use Rattle.parity.specs.Laws.Passed.{side_by_side};
 
 use tables::matrix::{Subframe, Submatrix, add, equations};
 use words::bits::first_not_bit;
-use words::refusal::{Answer, EQUATION_2, EQUATION_3, LENGTH, NOT_A_BIT, refuse};
+use words::refusal::{Refusal, Rule};
 
 // A block has this many symbols: as many of parity as of data.
 pub(crate) fn is_block(subframe: Subframe, count: usize) -> bool
@@ -86,13 +87,13 @@ fn first_unmet_by(subframe: Subframe, block: &[u8], sums: &mut [u8]) -> usize
     first_odd(sums)
 }
 
-// The number on refusal for an equation that isn't met.
-fn equation_number(subframe: Subframe) -> u8
-    ensures { result ≡ equation_number subframe }
+// The rule for an equation that isn't met.
+fn equation_rule(subframe: Subframe) -> Rule
+    ensures { number result ≡ equation_number subframe }
 {
     match subframe {
-        Subframe::Two => EQUATION_2,
-        Subframe::Three => EQUATION_3,
+        Subframe::Two => Rule::Equation2,
+        Subframe::Three => Rule::Equation3,
     }
 }
 
@@ -108,19 +109,19 @@ fn unmet(subframe: Subframe, block: &[u8]) -> usize
 
 // Whether a block of 1200 symbols of subframe 2, or of 548 of subframe 3, meets every equation. Refused 1 at 0 for another length, 2 at
 // the first byte that is neither 0 nor 1, then 4 or 7 at the first equation that isn't met.
-pub fn first_unmet(subframe: Subframe, block: &[u8]) -> Answer
+pub fn first_unmet(subframe: Subframe, block: &[u8]) -> Result<(), Refusal>
     ensures { result ≡ met_answer subframe block.now }
 {
     if !is_block(subframe, block.len()) {
-        return refuse(LENGTH, 0);
+        return Err(Rule::Length.at(0));
     }
     let bad = first_not_bit(block);
     if bad != block.len() {
-        return refuse(NOT_A_BIT, bad);
+        return Err(Rule::NotABit.at(bad));
     }
     let place = unmet(subframe, block);
     if place != 0 {
-        return refuse(equation_number(subframe), place);
+        return Err(equation_rule(subframe).at(place));
     }
-    Answer::Done
+    Ok(())
 }

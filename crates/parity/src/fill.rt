@@ -7,15 +7,15 @@ ghost use Rattle.parity.specs.Fill.{with_parity, fill_answer, fill_bytes};
 
 use super::equations::{is_block, last_sum};
 use tables::matrix::{Subframe, Submatrix, add, equations, solve};
-use words::bits::{copy, first_not_bit};
-use words::refusal::{Answer, LENGTH, NOT_A_BIT, refuse};
+use words::bits::first_not_bit;
+use words::refusal::{Refusal, Rule};
 
 // T⁻¹ times the sums.
 fn solve_into(subframe: Subframe, sums: &[u8], unknowns: &mut [u8])
     requires { length sums.now ≡ length unknowns.old }
     ensures { unknowns.new ≡ solved (matrix_of subframe).t sums.now }
 {
-    copy(sums, unknowns);
+    unknowns.copy_from_slice(sums);
     solve(subframe, unknowns);
 }
 
@@ -58,17 +58,17 @@ fn fill(subframe: Subframe, block: &mut [u8])
 
 // Puts the parity behind the data symbols of a block: 600 of 1200 symbols of subframe 2, or 274 of 548 of subframe 3. Refused 1 at 0 for
 // another length, 2 at the first data symbol that is neither 0 nor 1.
-pub fn fill_parity(subframe: Subframe, block: &mut [u8]) -> Answer
+pub fn fill_parity(subframe: Subframe, block: &mut [u8]) -> Result<(), Refusal>
     ensures { (result ≡ fill_answer subframe block.old) × (block.new ≡ fill_bytes subframe block.old) }
 {
     if !is_block(subframe, block.len()) {
-        return refuse(LENGTH, 0);
+        return Err(Rule::Length.at(0));
     }
     let n = equations(subframe);
     let bad = first_not_bit(&block[..n]);
     if bad != n {
-        return refuse(NOT_A_BIT, bad);
+        return Err(Rule::NotABit.at(bad));
     }
     fill(subframe, block);
-    Answer::Done
+    Ok(())
 }

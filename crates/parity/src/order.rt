@@ -1,11 +1,11 @@
 // The order of symbols: those of subframe 2, then those of subframe 3, fill rows and leave by columns.
 ghost use Rattle.std.specs.Prelude.{◌≡◌, ◌++◌, ◌+◌, ◌<◌, ◌≤◌, ltb, length, get_or};
 ghost use Rattle.words.specs.Bits.{first_not_bit};
-ghost use Rattle.words.specs.Refusal.{left_if};
-ghost use Rattle.parity.specs.Order.{SYMBOLS_2, SYMBOLS_3, SYMBOLS, leaves_at, stood_at, symbols_at, interleaved, first_block, second_block, place_in_order, place_before, no_place, right_lengths, bits_answer, interleave_answer, interleave_bytes, deinterleave_answer, deinterleave_block2, deinterleave_block3};
+ghost use Rattle.words.specs.Refusal.{LENGTH, done_if, left_if};
+ghost use Rattle.parity.specs.Order.{SYMBOLS_2, SYMBOLS_3, SYMBOLS, leaves_at, stood_at, symbols_at, interleaved, first_block, second_block, place_in_order, place_before, right_lengths, bits_answer, interleave_answer, interleave_bytes, deinterleave_answer, deinterleave_block2, deinterleave_block3};
 
 use words::bits::first_not_bit;
-use words::refusal::{Answer, LENGTH, NOT_A_BIT, refuse};
+use words::refusal::{Refusal, Rule};
 
 // The symbols of subframe 2, of subframe 3 and of both, and the rows and columns that they fill.
 const SYMBOLS_2: usize = 1200;
@@ -19,13 +19,6 @@ const ROWS: usize = 38;
 const COLUMNS: usize = 46;
 
 // ---- places
-
-// Where a symbol goes or comes from; 0 beside a refusal.
-#[derive(Clone, Copy)]
-pub struct Place {
-    pub answer: Answer,
-    pub index: usize,
-}
 
 // Where the symbol at `index` leaves.
 fn leaves_at(index: usize) -> usize
@@ -41,47 +34,31 @@ fn stood_at(index: usize) -> usize
     COLUMNS * (index % ROWS) + index / ROWS
 }
 
-// One of the symbols has this index.
-fn is_symbol(index: usize) -> bool
-    ensures { result ≡ ltb index SYMBOLS }
+// Whether one of the symbols has this index; refused 1 at 0 past the last one.
+fn judge_index(index: usize) -> Result<(), Refusal>
+    ensures { result ≡ done_if (ltb index SYMBOLS) LENGTH 0 }
 {
-    index < SYMBOLS
-}
-
-// Past the last symbol: refused 1 at 0, and 0 beside it.
-fn no_place() -> Place
-    ensures { result ≡ no_place }
-{
-    Place {
-        answer: refuse(LENGTH, 0),
-        index: 0,
+    let is_symbol = index < SYMBOLS;
+    if is_symbol {
+        return Ok(());
     }
+    Err(Rule::Length.at(0))
 }
 
 // Where the symbol at `index` leaves; refused 1 at 0 past the last symbol.
-pub fn place_in_order(index: usize) -> Place
+pub fn place_in_order(index: usize) -> Result<usize, Refusal>
     ensures { result ≡ place_in_order index }
 {
-    if is_symbol(index) {
-        return Place {
-            answer: Answer::Done,
-            index: leaves_at(index),
-        };
-    }
-    no_place()
+    judge_index(index)?;
+    Ok(leaves_at(index))
 }
 
 // Where the symbol stood that leaves at `index`; refused 1 at 0 past the last symbol.
-pub fn place_before(index: usize) -> Place
+pub fn place_before(index: usize) -> Result<usize, Refusal>
     ensures { result ≡ place_before index }
 {
-    if is_symbol(index) {
-        return Place {
-            answer: Answer::Done,
-            index: stood_at(index),
-        };
-    }
-    no_place()
+    judge_index(index)?;
+    Ok(stood_at(index))
 }
 
 // ---- judging
@@ -100,13 +77,13 @@ fn has_lengths(count2: usize, count3: usize, count: usize) -> bool
 }
 
 // Done where the first byte that is no bit is past the last symbol, and else refused 2 there.
-fn bits_answer(place: usize) -> Answer
+fn bits_answer(place: usize) -> Result<(), Refusal>
     ensures { result ≡ bits_answer place }
 {
     if place == SYMBOLS {
-        return Answer::Done;
+        return Ok(());
     }
-    refuse(NOT_A_BIT, place)
+    Err(Rule::NotABit.at(place))
 }
 
 // The index of the first byte that is neither 0 nor 1, counted over the blocks one after another, or the number of bytes.
@@ -159,7 +136,7 @@ fn put_if(good: bool, block2: &[u8], block3: &[u8], symbols: &mut [u8])
 
 // The symbols of both blocks as they leave; refused 1 at 0 unless the lengths are right, then 2 at the first byte that is no bit,
 // counted over the blocks one after another.
-pub fn interleave(block2: &[u8], block3: &[u8], symbols: &mut [u8]) -> Answer
+pub fn interleave(block2: &[u8], block3: &[u8], symbols: &mut [u8]) -> Result<(), Refusal>
     ensures { (result ≡ interleave_answer block2.now block3.now symbols.old)
         × (symbols.new ≡ interleave_bytes block2.now block3.now symbols.old) }
 {
@@ -168,7 +145,7 @@ pub fn interleave(block2: &[u8], block3: &[u8], symbols: &mut [u8]) -> Answer
         put_if(place == SYMBOLS, block2, block3, symbols);
         return bits_answer(place);
     }
-    refuse(LENGTH, 0)
+    Err(Rule::Length.at(0))
 }
 
 // ---- out of order
@@ -198,7 +175,7 @@ fn take_if(good: bool, symbols: &[u8], block2: &mut [u8], block3: &mut [u8])
 }
 
 // The blocks of the symbols as they left; refused 1 at 0 unless the lengths are right, then 2 at the first byte that is no bit.
-pub fn deinterleave(symbols: &[u8], block2: &mut [u8], block3: &mut [u8]) -> Answer
+pub fn deinterleave(symbols: &[u8], block2: &mut [u8], block3: &mut [u8]) -> Result<(), Refusal>
     ensures { (result ≡ deinterleave_answer symbols.now block2.old block3.old)
         × (block2.new ≡ deinterleave_block2 symbols.now block2.old block3.old)
         × (block3.new ≡ deinterleave_block3 symbols.now block2.old block3.old) }
@@ -208,5 +185,5 @@ pub fn deinterleave(symbols: &[u8], block2: &mut [u8], block3: &mut [u8]) -> Ans
         take_if(place == SYMBOLS, symbols, block2, block3);
         return bits_answer(place);
     }
-    refuse(LENGTH, 0)
+    Err(Rule::Length.at(0))
 }

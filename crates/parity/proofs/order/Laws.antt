@@ -8,8 +8,7 @@ use native.Mathlib.Numerals.{add-one}
 use native.Mathlib.Omega.{arith}
 use lib.ListN.{length, get_or, take, set}
 use lib.Seq.{take-suc-set, append_snoc, take_all, get_or-append-add}
-use Rattle.words.specs.Refusal.{left_if}
-use Rattle.words.specs.declared.refusal.Answer.{Answer}
+use Rattle.words.specs.Refusal.{left_if, Answer}
 use Rattle.parity.specs.Order.{symbols_at, all_bits, bits_answer, order_answer, order_leaves}
 
 -- one more symbol written

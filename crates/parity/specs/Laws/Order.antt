@@ -1,7 +1,7 @@
 -- Symbols taken at places, one after another: how many and which, there and back, their bits and their sums; the two blocks, what
 -- is judged of them, and their first byte that is no bit.
 -- Assumes nothing.
-use Rattle.std.specs.Prelude.{◌≡◌, Bool, true, false, cond, ◌&&◌, ltb, eqb, length, take, drop}
+use Rattle.std.specs.Prelude.{◌≡◌, Ok, Bool, true, false, cond, ◌&&◌, ltb, eqb, length, take, drop}
 use Rattle.std.proofs.Math.Path.{refl, ap, ap₂}
 use Rattle.std.proofs.Common.{sym, ◌∙◌, subst, take-append-drop, take_at, drop_at, ext_get_or, eqb-true, eq-eqb, lt-ltb}
 use Rattle.std.proofs.Math.Bool.{and-eq-true_iff}
@@ -14,8 +14,8 @@ use Rattle.words.specs.Bits.{IsBits, first_not_bit}
 use Rattle.words.specs.Sums.{sums}
 use Rattle.words.specs.Laws.Digits.{no_bits, more_bits}
 use Rattle.words.specs.Laws.Sums.{sums_at}
-use Rattle.words.specs.declared.refusal.Answer.TheVariants.{Done}
-use Rattle.parity.specs.Order.{SYMBOLS_2, SYMBOLS_3, SYMBOLS, leaves_at, symbols_at, deinterleaved, first_block, second_block, place_is, no_place, place_by, right_lengths, HaveLengths, order_answer, order_leaves}
+use Rattle.parity.specs.Order.{SYMBOLS_2, SYMBOLS_3, SYMBOLS, leaves_at, symbols_at, deinterleaved, first_block, second_block, place_by, right_lengths, HaveLengths, order_answer, order_leaves}
+use Rattle.words.specs.Refusal.{Done}
 
 -- ---- symbols at places
 
@@ -77,11 +77,12 @@ places_back p q inside back l e =
         ∙ ap (λ (j : ℕ). get_or l j 0) (back k h)
 
 -- asking for one place and then for the other
-pub asked_back : (p q : ℕ → ℕ) (k : ℕ) → k < SYMBOLS → q k < SYMBOLS → p (q k) ≡ k → place_by p (place_by q k).index ≡ place_is k
-asked_back p q k h inside back =
-    ap (λ (t : Bool). place_by p (cond t (place_is (q k)) no_place).index) (lt-ltb k SYMBOLS h)
-    ∙ ap (λ (t : Bool). cond t (place_is (p (q k))) no_place) (lt-ltb (q k) SYMBOLS inside)
-    ∙ ap place_is back
+pub asked : (p : ℕ → ℕ) (k : ℕ) → k < SYMBOLS → place_by p k ≡ Ok (p k)
+asked p k h = rw (lt-ltb k SYMBOLS h) refl
+
+pub asked_back : (p q : ℕ → ℕ) (k : ℕ) → k < SYMBOLS → q k < SYMBOLS → p (q k) ≡ k
+    → (place_by q k ≡ Ok (q k)) × (place_by p (q k) ≡ Ok k)
+asked_back p q k h inside back = (asked q k h, asked p (q k) inside ∙ ap Ok back)
 
 -- ---- the two blocks
 

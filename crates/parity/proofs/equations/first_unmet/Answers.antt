@@ -1,14 +1,15 @@
 -- `parity::equations::first_unmet` meets its contract: 1, then 2, then the equations. Assumes nothing.
-use mathlib.Core.Path.{sym, ◌∙◌}
+use mathlib.Core.Path.{sym, ◌∙◌, ap}
 use borrow.Author.Tests.{eqb-true, eq-eqb, ne_eqb}
+use Rattle.std.specs.Prelude.{Err}
 use Rattle.parity.proofs.equations.first_unmet.Goals as goal
 
 pub returns-then-not-is_block : goal.returns-then-not-is_block
-returns-then-not-is_block c = c.refuse.ensures ∙ rw (sym c.is_block.ensures ∙ c.if-not-is_block.true)
+returns-then-not-is_block c = (ap Err c.at.ensures) ∙ rw (sym c.is_block.ensures ∙ c.if-not-is_block.true)
 
 pub returns-then-bad-block : goal.returns-then-bad-block
 returns-then-bad-block c =
-    c.refuse-then-bad-block.ensures
+    (ap Err c.at-then-bad-block.ensures)
     ∙ rw (
       c.first_not_bit-bad.ensures,
       sym c.is_block.ensures ∙ c.if-not-is_block.false,
@@ -20,9 +21,9 @@ unmet-place-requires c = eqb-true _ _ (sym c.is_block.ensures ∙ c.if-not-is_bl
 
 pub returns-then-place-ne0 : goal.returns-then-place-ne0
 returns-then-place-ne0 c =
-    c.refuse-then-place-ne0.ensures
+    (ap Err c.at-then-place-ne0.ensures)
     ∙ rw (
-      c.equation_number.ensures,
+      c.equation_rule.ensures,
       c.unmet-place.ensures,
       sym c.is_block.ensures ∙ c.if-not-is_block.false,
       eq-eqb _ _ (sym c.first_not_bit-bad.ensures ∙ c.if-bad-block.false),

@@ -6,6 +6,7 @@ use native.Mathlib.Omega.{arith}
 use lib.ListN.{length, take}
 use lib.Seq.{length-take-le}
 use borrow.Author.Tests.{eqb-true, eq-eqb, ne_eqb}
+use Rattle.std.specs.Prelude.{Err}
 use Rattle.words.specs.Bits.{first_not_bit}
 use Rattle.tables.specs.Matrix.{matrix_of}
 use Rattle.parity.specs.Equations.{data_of, is_block}
@@ -13,7 +14,7 @@ use Rattle.parity.proofs.fill.fill_parity.Goals.{After-equations-n, After-first_
 use Rattle.parity.proofs.fill.fill_parity.Goals as goal
 
 pub returns-then-not-is_block : goal.returns-then-not-is_block
-returns-then-not-is_block c = rw (sym c.is_block.ensures ∙ c.if-not-is_block.true) (c.refuse.ensures, refl)
+returns-then-not-is_block c = rw (sym c.is_block.ensures ∙ c.if-not-is_block.true) ((ap Err c.at.ensures), refl)
 
 -- the length has been judged
 block : (c : After-equations-n)
@@ -44,7 +45,7 @@ returns-then-bad-n c =
     rw (
       block (goal.at.returns-then-bad-n c).After-equations-n,
       ne_eqb _ _ (λ e. c.if-bad-n.true (scanned (goal.at.returns-then-bad-n c).After-first_not_bit-bad ∙ e ∙ sym c.equations-n.ensures)),
-    ) (c.refuse-then-bad-n.ensures ∙ rw (scanned (goal.at.returns-then-bad-n c).After-first_not_bit-bad), refl)
+    ) ((ap Err c.at-then-bad-n.ensures) ∙ rw (scanned (goal.at.returns-then-bad-n c).After-first_not_bit-bad), refl)
 
 pub fill-requires : goal.fill-requires
 fill-requires c = long (goal.at.fill-requires c).After-equations-n

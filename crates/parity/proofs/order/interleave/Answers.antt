@@ -1,9 +1,10 @@
 -- `parity::order::interleave` meets its contract. Assumes nothing.
-use mathlib.Core.Path.{◌≡◌, refl, sym, ◌∙◌}
+use mathlib.Core.Path.{◌≡◌, refl, sym, ◌∙◌, ap}
 use mathlib.Core.Bool.{true}
 use mathlib.Core.List.{◌++◌}
 use native.Mathlib.Omega.{arith}
 use lib.ListN.{length}
+use Rattle.std.specs.Prelude.{Err}
 use Rattle.words.specs.Bits.{first_not_bit}
 use Rattle.parity.specs.Order.{interleaved, right_lengths}
 use Rattle.parity.specs.Laws.Order.{lengths_found}
@@ -38,4 +39,4 @@ returns-then-has_lengths c =
     )
 
 pub returns : goal.returns
-returns c = let e = sym c.has_lengths.ensures ∙ c.if-has_lengths.false in (rw e c.refuse.ensures, rw e refl)
+returns c = let e = sym c.has_lengths.ensures ∙ c.if-has_lengths.false in (rw e (ap Err c.at.ensures), rw e refl)
