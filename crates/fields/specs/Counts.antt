@@ -3,8 +3,7 @@
 use Rattle.std.specs.Prelude.{◌≡◌, Bool, true, false, cond, ◌&&◌, ◌||◌, List, [], ◌∷◌, ◌++◌, ℕ, ◌+◌, ◌<◌, eqb, leb, ℤ, pos, length, get_or, take, drop}
 use Rattle.std.specs.Int.Signed.{mag, non_neg}
 use Rattle.words.specs.Bits.{value_of, bits_of, signed_of, unsigned_of}
-use Rattle.words.specs.Refusal.{done_if}
-use Rattle.words.specs.declared.refusal.Answer.{Answer}
+use Rattle.words.specs.Refusal.{done_if, Answer}
 use Rattle.fields.specs.Table.{no_field, bit_count}
 use Rattle.fields.specs.declared.table.Field.{Field}
 

@@ -1,15 +1,14 @@
 -- THEOREMS: the record of subframe 2 and its 576 bits, there and back; where it is refused, and that a refusal leaves the bytes; where
 -- fields stand.
 -- Assumes nothing.
-use Rattle.std.specs.Prelude.{◌≡◌, refl, Bool, true, false, cond, ◌&&◌, List, [], ◌∷◌, ◌++◌, ℕ, eqb, ℤ, pos, length}
+use Rattle.std.specs.Prelude.{◌≡◌, refl, Ok, Bool, true, false, cond, ◌&&◌, List, [], ◌∷◌, ◌++◌, ℕ, eqb, ℤ, pos, length}
 use Rattle.std.proofs.Common.{sym, ap, ap₂, ◌∙◌, append-nil, arith, take_all, ne_eqb}
 use Rattle.words.specs.Bits.{IsBits, bits_of}
-use Rattle.words.specs.Refusal.{LENGTH, FIELD_2, refused_at, done_if, in_turn, left_if}
+use Rattle.words.specs.Refusal.{LENGTH, FIELD_2, refused_at, done_if, in_turn, left_if, given_by, Done}
 use Rattle.words.specs.Unchanged.{Refuses}
-use Rattle.words.specs.declared.refusal.Answer.TheVariants.{Done}
 use Rattle.fields.specs.Table.{subframe2_rows, fields_in, bit_count, first_bit}
 use Rattle.fields.specs.Counts.{counts_in, bits_of_counts, AllInRange, first_out, FirstOutAt}
-use Rattle.fields.specs.Subframe2.{fields2, bits2, first_out2, fields_answer, fields_by, fields_read, right_lengths2, counts_answer, fields_written, fields_bytes}
+use Rattle.fields.specs.Subframe2.{fields2, bits2, first_out2, fields_answer, fields_read, right_lengths2, counts_answer, fields_written, fields_bytes}
 use Rattle.fields.specs.Laws.Table.{usable_tables}
 use Rattle.fields.specs.Laws.Answers.{judged_right, refused_at_place, counts_judged_lem, counts_right, counts_wrong}
 use Rattle.fields.specs.Laws.Counts.{out_of_two}
@@ -46,9 +45,9 @@ module _ (zs : List ℤ) (h : AllInRange (fields_in Subframe2) zs) where
       ∙ counts_back (fields_in Subframe2) zs (bits_of 10 0) (usable_tables Subframe2) h
 
   -- Counts in range, written and read, are the same counts.
-  pub fields_written_read : fields_read (bits2 zs) ≡ record { answer = Done; counts = zs }
+  pub fields_written_read : fields_read (bits2 zs) ≡ Ok zs
   fields_written_read =
-      ap₂ fields_by
+      ap₂ given_by
       (judged_right 576 (length (bits2 zs)) (bits2 zs) (fields_answer (bits2 zs)) (length_bits2 zs h.as_many) (bits2_are zs)
       ∙ counts_right FIELD_2 0 fields2 (counts_in fields2 (bits2 zs)) none_found)
       found_again

@@ -1,11 +1,9 @@
 -- The pages of subframe 3 (document 01, "Subframe 3"; IS-GPS-800, 3.5.4): 250 bits, which are PRN, page number and 236 bits of body. Page
 -- 1 and page 6 have fields; the rest of the body, and the whole body of every other page, is carried as bits.
 -- Assumes nothing.
-use Rattle.std.specs.Prelude.{Bool, cond, not, ◌&&◌, List, ◌++◌, ℕ, ◌+◌, ◌-◌, eqb, leb, ℤ, pos, length, take, drop, replicate}
+use Rattle.std.specs.Prelude.{Bool, cond, not, ◌&&◌, List, ◌++◌, ℕ, ◌+◌, ◌-◌, eqb, leb, ℤ, pos, length, take, drop, replicate, Result}
 use Rattle.words.specs.Bits.{first_not_bit, value_of, bits_of}
-use Rattle.words.specs.Refusal.{FIELD_3, done_if, in_turn, judged, left_by}
-use Rattle.words.specs.declared.refusal.Answer.{Answer}
-use Rattle.words.specs.declared.refusal.Answer.TheVariants.{Done, Refused}
+use Rattle.words.specs.Refusal.{FIELD_3, done_if, in_turn, judged, left_by, given_by, Answer}
 use Rattle.fields.specs.Table.{fields_in, bit_count}
 use Rattle.fields.specs.Counts.{counts_in, bits_of_counts, out_answer}
 use Rattle.fields.specs.declared.table.Field.{Field}
@@ -14,7 +12,7 @@ use Rattle.fields.specs.declared.table.Table.TheVariants.{Page1, Page6, NoFields
 use Rattle.fields.specs.declared.pages.Kind.{Kind}
 use Rattle.fields.specs.declared.pages.Kind.TheVariants.{One, Six, Bare}
 use Rattle.fields.specs.declared.pages.Page.{Page}
-use Rattle.fields.specs.declared.pages.Taken.{Taken}
+use Rattle.words.specs.declared.refusal.Refusal.{Refusal}
 
 -- ---- 250 page bits
 
@@ -97,18 +95,9 @@ range_answer l = counts_answer3 (page_fields (kind_of (number_in l))) (page_coun
 abbrev pub page_answer : List ℕ → Answer
 page_answer l = judged (eqb (length l) PAGE_BITS) (eqb (first_not_bit l) (length l)) (first_not_bit l) (range_answer l)
 
--- what stands beside a refusal: zeros, as bare bits
-abbrev pub no_page : Page
-no_page = record { prn = 0; number = 0; kind = Bare; counts = replicate PAGE_COUNTS (pos 0); bits = replicate BODY_BITS 0 }
-
--- the record, or a refusal with zeros beside it
-abbrev pub taken_by : Answer → Page → Taken
-taken_by Done page = record { answer = Done; page = page }
-taken_by (Refused r) page = record { answer = Refused r; page = no_page }
-
 -- taking 250 page bits as a record: 1, 2, then 9
-abbrev pub page_taken : List ℕ → Taken
-page_taken l = taken_by (page_answer l) (record_of (kind_of (number_in l)) l)
+abbrev pub page_taken : List ℕ → Result Page Refusal
+page_taken l = given_by (page_answer l) (record_of (kind_of (number_in l)) l)
 
 -- ---- putting back
 

@@ -1,23 +1,22 @@
 -- THEOREMS: page bits and records, there and back; a refusal leaves the bytes; where fields stand, and their ranges.
 -- Assumes nothing.
-use Rattle.std.specs.Prelude.{◌≡◌, refl, true, false, List, ◌++◌, ℕ, ◌+◌, ◌-◌, ◌^◌, ◌≤◌, ◌<◌, ℤ, pos, length, get_or, take, drop, replicate}
+use Rattle.std.specs.Prelude.{◌≡◌, refl, Ok, true, false, List, ◌++◌, ℕ, ◌+◌, ◌-◌, ◌^◌, ◌≤◌, ◌<◌, ℤ, pos, length, get_or, take, drop, replicate}
 use Rattle.std.proofs.Common.{sym, ap, ap₂, ◌∙◌, arith, length-append, length-drop, take-append-drop, length-take-le, take_at, drop_at, drop-drop}
 use Rattle.words.specs.Bits.{IsBits, value_of, bits_of}
 use Rattle.words.specs.RoundTrip.{number_back, bits_back}
-use Rattle.words.specs.Refusal.{FIELD_3, done_if, left_by}
+use Rattle.words.specs.Refusal.{FIELD_3, done_if, left_by, given_by, Answer, Done}
 use Rattle.words.specs.Unchanged.{Refuses, refused_by_answer}
 use Rattle.words.specs.Laws.Digits.{bits_append, bits_take, bits_drop, length_bits, bits_are}
 use Rattle.words.specs.Laws.Turns.{both_done, test_done}
-use Rattle.words.specs.declared.refusal.Answer.{Answer}
-use Rattle.words.specs.declared.refusal.Answer.TheVariants.{Done}
 use Rattle.fields.specs.Table.{fields_in, no_field, page1_rows, page6_rows, bit_count, first_bit}
 use Rattle.fields.specs.Counts.{counts_in, bits_of_counts, in_range, first_out}
-use Rattle.fields.specs.Pages.{PAGE_BITS, HEAD_BITS, BODY_BITS, PAGE_COUNTS, NUMBER_BIT, prn_in, number_in, kind_of, table_of, page_fields, carried, page_counts, carried_bits, record_with, record_of, range_answer, page_answer, taken_by, page_taken, is_own, counts_answer3, fields_answer3, parts_answer, page_from, parts_bytes, used_counts, used_bits, put_page_answer, put_page_bytes}
+use Rattle.fields.specs.Pages.{PAGE_BITS, HEAD_BITS, BODY_BITS, PAGE_COUNTS, NUMBER_BIT, prn_in, number_in, kind_of, table_of, page_fields, carried, page_counts, carried_bits, record_with, record_of, range_answer, page_answer, page_taken, is_own, counts_answer3, fields_answer3, parts_answer, page_from, parts_bytes, used_counts, used_bits, put_page_answer, put_page_bytes}
 use Rattle.fields.specs.CountsBack.{length_bits_of, bits_of_are, counts_back, count_bits_back, none_out}
 use Rattle.fields.specs.Laws.Counts.{value_below}
 use Rattle.fields.specs.Laws.Table.{usable_tables}
 use Rattle.fields.specs.Laws.Answers.{judged_right, found_done, counts_judged_lem, counts_right}
-use Rattle.fields.specs.Laws.Pages.{few_bits, counts_used, parts_as_long, taken_answer, own_below, own_kind, kind_own}
+use Rattle.words.specs.Laws.Turns.{given_ok}
+use Rattle.fields.specs.Laws.Pages.{few_bits, counts_used, parts_as_long, own_below, own_kind, kind_own}
 use Rattle.fields.specs.declared.pages.Kind.{Kind}
 use Rattle.fields.specs.declared.pages.Page.{Page}
 use Rattle.fields.specs.declared.table.Field.{Field}
@@ -40,9 +39,6 @@ module _ (kind : Kind) (number : ℕ) (zs : List ℤ) (bits out : List ℕ) wher
       (found.0, found.1, test_done (is_own kind number) FIELD_3 NUMBER_BIT both.0, counts_judged_lem FIELD_3 14 (page_fields kind) zs both.1)
 
 -- ---- page bits, taken and put back
-
-taken_page : (a : Answer) (page : Page) → a ≡ Done → (taken_by a page).page ≡ page
-taken_page a page e = ap (λ (x : Answer). (taken_by x page).page) e
 
 module _ (l : List ℕ) (long : length l ≡ 250) (are : IsBits l) where
   -- the bits of a number that bits stand for
@@ -76,13 +72,14 @@ counts_again : (kind : Kind) (l : List ℕ) → used_counts (record_of kind l) �
 counts_again kind l = counts_used kind l (length (page_fields kind)) (record_of kind l).counts refl refl
 
 -- 250 bits that are taken without refusal and put back into any 250 bytes are the same bits, and nothing is refused.
-pub page_put_again : (l old : List ℕ) → (page_taken l).answer ≡ Done → length old ≡ PAGE_BITS
-    → (put_page_answer (page_taken l).page old ≡ Done) × (put_page_bytes (page_taken l).page old ≡ l)
-page_put_again l old e n =
+pub page_put_again : (l old : List ℕ) (taken : Page) → page_taken l ≡ Ok taken → length old ≡ PAGE_BITS
+    → (put_page_answer taken old ≡ Done) × (put_page_bytes taken old ≡ l)
+page_put_again l old taken e n =
     let number : ℕ = number_in l in
     let kind : Kind = kind_of number in
     let page : Page = record_of kind l in
-    let done : page_answer l ≡ Done = sym (taken_answer (page_answer l) page) ∙ e in
+    let as_taken = given_ok (page_answer l) page taken e in
+    let done : page_answer l ≡ Done = as_taken.0 in
     let found = found_done 250 (length l) l (range_answer l) done in
     let long = found.0 in
     let are = found.1 in
@@ -95,8 +92,7 @@ page_put_again l old e n =
     ap₂ (λ (zs : List ℤ) (bits : List ℕ). parts_bytes (prn_in l) kind number zs bits old) (counts_again kind l) (carried_again l long are kind)
     ∙ ap (λ (a : Answer). left_by a (page_from (prn_in l) number (page_fields kind) (page_counts kind l) (carried_bits kind l)) old) answer
     ∙ all_again l long are kind in
-    let same : (page_taken l).page ≡ page = taken_page (page_answer l) page done in
-    (ap (λ (p : Page). put_page_answer p old) same ∙ whole, ap (λ (p : Page). put_page_bytes p old) same ∙ bytes)
+    (rw as_taken.1 whole, rw as_taken.1 bytes)
 
 -- ---- a record, put and taken back
 
@@ -166,9 +162,9 @@ module _ (prn number : ℕ) (kind : Kind) (zs : List ℤ) (bits : List ℕ) (sma
       ∙ ap (λ (k : Kind). counts_answer3 (page_fields k) (page_counts k put_bits)) kind_same
       ∙ ap (counts_answer3 (page_fields kind)) counts_same ∙ counts_right FIELD_3 14 (page_fields kind) zs none
 
-  put_taken : page_taken put_bits ≡ record { answer = Done; page = record_with prn number kind zs bits }
+  put_taken : page_taken put_bits ≡ Ok (record_with prn number kind zs bits)
   put_taken =
-      ap₂ taken_by put_done
+      ap₂ given_by put_done
       (ap (λ (k : Kind). record_of k put_bits) kind_same ∙ rw (prn_same, number_same, counts_same, carried_same) refl)
 
 -- the parts of a record are as many as they must be
@@ -180,7 +176,7 @@ parts_there page is =
 
 -- A record that is put without refusal is taken back: the same record, with zeros in the places that its kind does not use.
 pub page_taken_back : (page : Page) (old : List ℕ) → IsPage page → put_page_answer page old ≡ Done
-    → page_taken (put_page_bytes page old) ≡ record { answer = Done; page = only_used page }
+    → page_taken (put_page_bytes page old) ≡ Ok (only_used page)
 page_taken_back page old is e =
     let were = parts_were page.kind page.number (used_counts page) (used_bits page) old e in
     let there = parts_there page is in
@@ -203,20 +199,20 @@ page_same_parts page is =
 
 -- And where what the kind does not use is zero, the record is the same.
 pub page_same : (page : Page) (old : List ℕ) → IsPage page → only_used page ≡ page → put_page_answer page old ≡ Done
-    → page_taken (put_page_bytes page old) ≡ record { answer = Done; page = page }
-page_same page old is zeros e = page_taken_back page old is e ∙ ap (λ (p : Page). record { answer = Done; page = p }) zeros
+    → page_taken (put_page_bytes page old) ≡ Ok page
+page_same page old is zeros e = page_taken_back page old is e ∙ ap Ok zeros
 
 -- A record that is taken has zeros there.
-pub taken_zeros : (l : List ℕ) → (page_taken l).answer ≡ Done → only_used (page_taken l).page ≡ (page_taken l).page
-taken_zeros l e =
+pub taken_zeros : (l : List ℕ) (taken : Page) → page_taken l ≡ Ok taken → only_used taken ≡ taken
+taken_zeros l taken e =
     let kind : Kind = kind_of (number_in l) in
     let page : Page = record_of kind l in
-    let done : page_answer l ≡ Done = sym (taken_answer (page_answer l) page) ∙ e in
+    let as_taken = given_ok (page_answer l) page taken e in
+    let done : page_answer l ≡ Done = as_taken.0 in
     let found = found_done 250 (length l) l (range_answer l) done in
-    let same : (page_taken l).page ≡ page = taken_page (page_answer l) page done in
     let zeros : only_used page ≡ page =
     ap₂ (record_with (prn_in l) (number_in l) kind) (counts_again kind l) (carried_again l found.0 found.1 kind) in
-    ap only_used same ∙ zeros ∙ sym same
+    ap only_used as_taken.1 ∙ zeros ∙ sym as_taken.1
 
 -- ---- a refusal leaves the bytes
 

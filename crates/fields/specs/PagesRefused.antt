@@ -1,19 +1,18 @@
 -- THEOREMS: what judging, taking and putting a page refuse, exactly: 1, 2, then 9.
 -- Assumes nothing.
-use Rattle.std.specs.Prelude.{◌≡◌, refl, Bool, true, false, List, ◌≢◌, ◌⊎◌, ℕ, ◌<◌, eqb, length, drop}
+use Rattle.std.specs.Prelude.{◌≡◌, refl, Bool, true, false, List, ◌≢◌, ◌⊎◌, ℕ, ◌<◌, eqb, length, drop, Err}
 use Rattle.std.proofs.Common.{sym, ap, ◌∙◌, subst, inl, inr, ⊎_elim, arith}
 use Rattle.words.specs.Bits.{IsBits, first_not_bit}
-use Rattle.words.specs.Refusal.{LENGTH, NOT_A_BIT, FIELD_3, refused_at, done_if, in_turn, number_of, place_of}
-use Rattle.words.specs.Unchanged.{Refuses}
+use Rattle.words.specs.Refusal.{LENGTH, NOT_A_BIT, FIELD_3, refused_at, done_if, in_turn, number_of, place_of, Answer, Done, answer_of, given_by}
+use Rattle.words.specs.declared.refusal.Refusal.{Refusal}
 use Rattle.words.specs.Laws.Turns.{test_numbered}
-use Rattle.words.specs.declared.refusal.Answer.{Answer}
-use Rattle.words.specs.declared.refusal.Answer.TheVariants.{Done, Refused}
 use Rattle.fields.specs.Table.{fields_in}
 use Rattle.fields.specs.Counts.{counts_in, AllInRange, first_out, FirstOutAt}
-use Rattle.fields.specs.Pages.{PAGE_BITS, HEAD_BITS, NUMBER_BIT, number_in, kind_of, page_fields, page_counts, counts_answer3, range_answer, page_answer, record_of, no_page, taken_by, page_taken, is_own, fields_answer3, used_counts, used_bits, put_page_answer}
+use Rattle.fields.specs.Pages.{PAGE_BITS, HEAD_BITS, NUMBER_BIT, number_in, kind_of, page_fields, page_counts, counts_answer3, range_answer, page_answer, record_of, page_taken, is_own, fields_answer3, used_counts, used_bits, put_page_answer}
 use Rattle.fields.specs.CountsBack.{in_range_none_out}
 use Rattle.fields.specs.Laws.Answers.{judged_right, judged_length, judged_byte, counts_right, counts_wrong}
-use Rattle.fields.specs.Laws.Pages.{taken_answer, own_below, one_asked, nine_counts, nine_fields, found_length, found_byte, found_field, range_found, only_one_out}
+use Rattle.words.specs.Laws.Turns.{given_answer}
+use Rattle.fields.specs.Laws.Pages.{own_below, one_asked, nine_counts, nine_fields, found_length, found_byte, found_field, range_found, only_one_out}
 use Rattle.fields.specs.declared.pages.Kind.{Kind}
 use Rattle.fields.specs.declared.pages.Kind.TheVariants.{One, Bare}
 use Rattle.fields.specs.declared.pages.Page.{Page}
@@ -34,12 +33,12 @@ module _ (l : List ℕ) where
   last_nine =
       let p = first_out 14 (page_fields (kind_of (number_in l))) (page_counts (kind_of (number_in l)) l) in nine_counts (eqb p 0) p
 
-  -- Refused 1: another length than 250, at 0, and nothing else.
+  -- Err 1: another length than 250, at 0, and nothing else.
   pub page_refused_length : (length l ≢ PAGE_BITS → page_answer l ≡ refused_at LENGTH 0)
       × (number_of (page_answer l) ≡ LENGTH → length l ≢ PAGE_BITS)
   page_refused_length = (judged_length 250 (length l) l (range_answer l), found_length (length l) l (range_answer l) last_nine)
 
-  -- Refused 2: 250 bytes of which one is neither 0 nor 1, at the first, and nothing else.
+  -- Err 2: 250 bytes of which one is neither 0 nor 1, at the first, and nothing else.
   pub page_refused_byte : (length l ≡ PAGE_BITS → (IsBits l → ⊥) → page_answer l ≡ refused_at NOT_A_BIT (first_not_bit l))
       × (number_of (page_answer l) ≡ NOT_A_BIT
       → (length l ≡ PAGE_BITS) × (IsBits l → ⊥) × (place_of (page_answer l) ≡ first_not_bit l))
@@ -51,7 +50,7 @@ module _ (l : List ℕ) where
       let found = found_field (length l) l (range_answer l) e in
       one_asked (number_in l) (only_one_out (kind_of (number_in l)) (drop 14 l) (sym (ap number_of found.2) ∙ e))
 
-  -- Refused 9: 250 bits of page 1 with a field out of its range, at the first bit of the first such field, and nothing else.
+  -- Err 9: 250 bits of page 1 with a field out of its range, at the first bit of the first such field, and nothing else.
   pub page_refused_field : (p : ℕ)
       → (length l ≡ PAGE_BITS → IsBits l → number_in l ≡ 1 → OutOfPage1 l p → page_answer l ≡ refused_at FIELD_3 p)
       × (page_answer l ≡ refused_at FIELD_3 p → (length l ≡ PAGE_BITS) × IsBits l × (number_in l ≡ 1) × OutOfPage1 l p)
@@ -89,16 +88,12 @@ module _ (l : List ℕ) where
       (λ e. absurd (other (one_asked (number_in l) (only_one_out (kind_of (number_in l)) (drop 14 l) e)))) last_nine)
 
   -- Taking refuses as judging does.
-  pub taken_as_judged : (page_taken l).answer ≡ page_answer l
-  taken_as_judged = taken_answer (page_answer l) (record_of (kind_of (number_in l)) l)
+  pub taken_as_judged : answer_of (page_taken l) ≡ page_answer l
+  taken_as_judged = given_answer (page_answer l) (record_of (kind_of (number_in l)) l)
 
-  -- Beside a refusal stand zeros.
-  pub refused_zeros : Refuses (page_answer l) → (page_taken l).page ≡ no_page
-  refused_zeros h = go (page_answer l) (record_of (kind_of (number_in l)) l) h
-    where
-      go : (a : Answer) (page : Page) → Refuses a → (taken_by a page).page ≡ no_page
-      go Done page h = absurd (h refl)
-      go (Refused r) page h = refl
+  -- A refusal gives nothing else.
+  pub refused_zeros : (r : Refusal) → page_answer l ≡ Err r → page_taken l ≡ Err r
+  refused_zeros r e = ap (λ (a : Answer). given_by a (record_of (kind_of (number_in l)) l)) e
 
 -- ---- putting
 
@@ -126,24 +121,24 @@ module _ (page : Page) (out : List ℕ) where
   put_nine =
       let p = first_out 14 (page_fields page.kind) (used_counts page) in nine_fields (is_own page.kind page.number) (eqb p 0) p
 
-  -- Refused 1: the lent bytes are not 250, at 0, and nothing else.
+  -- Err 1: the lent bytes are not 250, at 0, and nothing else.
   pub put_refused_length : (length out ≢ PAGE_BITS → put_page_answer page out ≡ refused_at LENGTH 0)
       × (number_of (put_page_answer page out) ≡ LENGTH → length out ≢ PAGE_BITS)
   put_refused_length = (judged_length 250 (length out) (used_bits page) judged_last, found_length (length out) (used_bits page) judged_last put_nine)
 
-  -- Refused 2: one of the record's own bits is neither 0 nor 1, at the index of the first, and nothing else.
+  -- Err 2: one of the record's own bits is neither 0 nor 1, at the index of the first, and nothing else.
   pub put_refused_byte : (length out ≡ PAGE_BITS → (IsBits (used_bits page) → ⊥)
       → put_page_answer page out ≡ refused_at NOT_A_BIT (first_not_bit (used_bits page)))
       × (number_of (put_page_answer page out) ≡ NOT_A_BIT
       → (length out ≡ PAGE_BITS) × (IsBits (used_bits page) → ⊥) × (place_of (put_page_answer page out) ≡ first_not_bit (used_bits page)))
   put_refused_byte = (judged_byte 250 (length out) (used_bits page) judged_last, found_byte (length out) (used_bits page) judged_last put_nine)
 
-  -- Refused 9 at 9: a page number that is not the record's own.
+  -- Err 9 at 9: a page number that is not the record's own.
   pub put_refused_number : length out ≡ PAGE_BITS → IsBits (used_bits page) → is_own page.kind page.number ≡ false
       → put_page_answer page out ≡ refused_at FIELD_3 NUMBER_BIT
   put_refused_number long are own = judged_right 250 (length out) (used_bits page) judged_last long are ∙ rw own refl
 
-  -- Refused 9 at the first bit of the first field out of its range: the page number is the record's own.
+  -- Err 9 at the first bit of the first field out of its range: the page number is the record's own.
   pub put_refused_field : (p : ℕ) → length out ≡ PAGE_BITS → IsBits (used_bits page) → is_own page.kind page.number ≡ true
       → OutOfRecord p → put_page_answer page out ≡ refused_at FIELD_3 p
   put_refused_field p long are own o =

@@ -1,15 +1,13 @@
 -- The record of subframe 2 (document 01, "Subframe 2"; IS-GPS-800, Table 3.5-1): 33 counts, and the 576 bits that stand for them.
 -- Assumes nothing.
-use Rattle.std.specs.Prelude.{Bool, ◌&&◌, List, [], ◌∷◌, ◌++◌, ℕ, eqb, ℤ, pos, length, replicate}
+use Rattle.std.specs.Prelude.{Bool, ◌&&◌, List, [], ◌∷◌, ◌++◌, ℕ, eqb, ℤ, pos, length, Result}
 use Rattle.words.specs.Bits.{first_not_bit}
-use Rattle.words.specs.Refusal.{LENGTH, FIELD_2, refused_at, done_if, in_turn, judged, left_if}
-use Rattle.words.specs.declared.refusal.Answer.{Answer}
-use Rattle.words.specs.declared.refusal.Answer.TheVariants.{Done, Refused}
+use Rattle.words.specs.Refusal.{Answer, LENGTH, FIELD_2, done_if, in_turn, judged, left_if, given_by}
 use Rattle.fields.specs.Table.{at_most, fields_in}
 use Rattle.fields.specs.Counts.{counts_in, bits_of_counts, first_out, out_answer}
 use Rattle.fields.specs.declared.table.Field.{Field}
 use Rattle.fields.specs.declared.table.Table.TheVariants.{Subframe2}
-use Rattle.fields.specs.declared.subframe2.Fields.{Fields}
+use Rattle.words.specs.declared.refusal.Refusal.{Refusal}
 
 -- bits 567 to 576 are reserved and must be zero: a field whose only count is 0
 abbrev pub reserved : Field
@@ -39,19 +37,10 @@ first_out2 l = first_out 0 fields2 (counts_in fields2 l)
 abbrev pub fields_answer : List ℕ → Answer
 fields_answer l = out_answer FIELD_2 0 fields2 (counts_in fields2 l)
 
--- a refusal, with zeros beside it
-abbrev pub no_fields : ℕ → ℕ → Fields
-no_fields number place = record { answer = refused_at number place; counts = replicate COUNTS_2 (pos 0) }
-
--- the counts, or a refusal with zeros beside it
-abbrev pub fields_by : Answer → List ℤ → Fields
-fields_by Done zs = record { answer = Done; counts = zs }
-fields_by (Refused r) zs = no_fields r.number r.place
-
 -- reading 576 bits: refused 1, 2, then 6
-abbrev pub fields_read : List ℕ → Fields
+abbrev pub fields_read : List ℕ → Result (List ℤ) Refusal
 fields_read l =
-    fields_by (judged (eqb (length l) BITS_2) (eqb (first_not_bit l) (length l)) (first_not_bit l) (fields_answer l))
+    given_by (judged (eqb (length l) BITS_2) (eqb (first_not_bit l) (length l)) (first_not_bit l) (fields_answer l))
     (counts_in (fields_in Subframe2) l)
 
 -- the counts and the bits that they are written into are as many as they must be

@@ -85,9 +85,9 @@ fn write_count(field: Field, count: i64, bits: &mut [u8], at: usize)
     ensures { bits.new ≡ sets bits.old at (bits_for field count) }
 {
     if field.signed {
-        put_signed(bits, at, field.width, count);
+        put_signed(bits, at, field.width, count).unwrap();
     } else {
-        put_number(bits, at, field.width, magnitude(count));
+        put_number(bits, at, field.width, magnitude(count)).unwrap();
     }
 }
 

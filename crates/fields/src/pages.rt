@@ -4,12 +4,12 @@ ghost use Rattle.words.specs.Bits.{bits_of};
 ghost use Rattle.fields.specs.Table.{fields_in, bit_count};
 ghost use Rattle.fields.specs.Counts.{first_out};
 ghost use Rattle.fields.specs.declared.pages.Kind.TheVariants.{Bare};
-ghost use Rattle.fields.specs.Pages.{PAGE_BITS, HEAD_BITS, BODY_BITS, PAGE_COUNTS, prn_in, number_in, kind_of, table_of, page_fields, counts_answer3, range_answer, page_answer, record_of, no_page, page_taken, is_own, fields_answer3, page_from, parts_answer, parts_bytes, put_page_answer, put_page_bytes};
+ghost use Rattle.fields.specs.Pages.{PAGE_BITS, HEAD_BITS, BODY_BITS, PAGE_COUNTS, prn_in, number_in, kind_of, table_of, page_fields, counts_answer3, range_answer, page_answer, record_of, page_taken, is_own, fields_answer3, page_from, parts_answer, parts_bytes, put_page_answer, put_page_bytes};
 
 use super::counts::{first_out, read_counts, write_counts};
 use super::table::{Table, bit_count, field_count};
-use words::bits::{copy, first_not_bit, put_number, take_number};
-use words::refusal::{Answer, FIELD_3, LENGTH, NOT_A_BIT, refuse};
+use words::bits::{first_not_bit, put_number, take_number};
+use words::refusal::{Refusal, Rule};
 
 // The page bits: PRN and page number before the body, and the body.
 const PAGE_BITS: usize = 250;
@@ -81,13 +81,6 @@ pub struct Page {
     pub kind: Kind,
     pub counts: [i64; 30],
     pub bits: [u8; 236],
-}
-
-// What taking page bits gives: the page, or a refusal with zeros beside it.
-#[derive(Clone, Copy)]
-pub struct Taken {
-    pub answer: Answer,
-    pub page: Page,
 }
 
 // The kind of record that a page number asks for.
@@ -163,7 +156,7 @@ fn carried_of(kind: Kind, bits: &[u8]) -> [u8; 236]
 {
     let end = HEAD_BITS + bit_count(table_of(kind));
     let mut carried = zero_bits();
-    copy(&bits[end..], &mut carried[..PAGE_BITS - end]);
+    carried[..PAGE_BITS - end].copy_from_slice(&bits[end..]);
     carried
 }
 
@@ -181,33 +174,20 @@ fn record_of(kind: Kind, bits: &[u8]) -> Page
     }
 }
 
-// What stands beside a refusal: zeros, as bare bits.
-fn no_page() -> Page
-    ensures { result ≡ no_page }
-{
-    Page {
-        prn: 0,
-        number: 0,
-        kind: Kind::Bare,
-        counts: zero_counts(),
-        bits: zero_bits(),
-    }
-}
-
 // Refused 9 at the first bit of the first field out of its range.
-fn judge_counts(table: Table, counts: &[i64]) -> Answer
+fn judge_counts(table: Table, counts: &[i64]) -> Result<(), Refusal>
     requires { length counts.now ≡ length (fields_in table) }
     ensures { result ≡ counts_answer3 (fields_in table) counts.now }
 {
     let out = first_out(table, HEAD_BITS, counts);
     if out != 0 {
-        return refuse(FIELD_3, out);
+        return Err(Rule::Field3.at(out));
     }
-    Answer::Done
+    Ok(())
 }
 
 // Refused 9 at the first bit of the first field of 250 page bits that is out of its range.
-fn judge_fields(bits: &[u8]) -> Answer
+fn judge_fields(bits: &[u8]) -> Result<(), Refusal>
     requires { length bits.now ≡ PAGE_BITS }
     ensures { result ≡ range_answer bits.now }
 {
@@ -218,33 +198,25 @@ fn judge_fields(bits: &[u8]) -> Answer
 }
 
 // Judges 250 page bits: refused 1, 2, then 9 at the first bit of the first field out of its range.
-pub fn judge_page(bits: &[u8]) -> Answer
+pub fn judge_page(bits: &[u8]) -> Result<(), Refusal>
     ensures { result ≡ page_answer bits.now }
 {
     if bits.len() != PAGE_BITS {
-        return refuse(LENGTH, 0);
+        return Err(Rule::Length.at(0));
     }
     let bad = first_not_bit(bits);
     if bad != bits.len() {
-        return refuse(NOT_A_BIT, bad);
+        return Err(Rule::NotABit.at(bad));
     }
     judge_fields(bits)
 }
 
-// Takes 250 page bits as a record; refused as they are judged, with zeros beside the refusal.
-pub fn take_page(bits: &[u8]) -> Taken
+// Takes 250 page bits as a record; refused as they are judged.
+pub fn take_page(bits: &[u8]) -> Result<Page, Refusal>
     ensures { result ≡ page_taken bits.now }
 {
-    match judge_page(bits) {
-        Answer::Done => Taken {
-            answer: Answer::Done,
-            page: record_of(kind_of(number_in(bits)), bits),
-        },
-        Answer::Refused(r) => Taken {
-            answer: Answer::Refused(r),
-            page: no_page(),
-        },
-    }
+    judge_page(bits)?;
+    Ok(record_of(kind_of(number_in(bits)), bits))
 }
 
 // ---- putting
@@ -274,12 +246,12 @@ fn is_own(kind: Kind, number: u8) -> bool
 }
 
 // Judges the page number and the counts of a record: 9.
-fn judge_record(kind: Kind, number: u8, counts: &[i64]) -> Answer
+fn judge_record(kind: Kind, number: u8, counts: &[i64]) -> Result<(), Refusal>
     requires { length counts.now ≡ length (page_fields kind) }
     ensures { result ≡ fields_answer3 kind number counts.now }
 {
     if !is_own(kind, number) {
-        return refuse(FIELD_3, NUMBER_BIT);
+        return Err(Rule::Field3.at(NUMBER_BIT));
     }
     judge_counts(table_of(kind), counts)
 }
@@ -289,8 +261,8 @@ fn write_head(prn: u8, number: u8, bits: &mut [u8])
     requires { (number < 64) × (length bits.old ≡ PAGE_BITS) }
     ensures { bits.new ≡ bits_of 8 prn ++ (bits_of 6 number ++ drop HEAD_BITS bits.old) }
 {
-    put_number(bits, 0, 8, prn as u64);
-    put_number(bits, 8, 6, number as u64);
+    put_number(bits, 0, 8, prn as u64).unwrap();
+    put_number(bits, 8, 6, number as u64).unwrap();
 }
 
 // The page bits of a record that is not refused.
@@ -302,7 +274,7 @@ fn write_page(prn: u8, number: u8, table: Table, counts: &[i64], carried: &[u8],
 {
     write_head(prn, number, bits);
     write_counts(table, counts, bits, HEAD_BITS);
-    copy(carried, &mut bits[HEAD_BITS + bit_count(table)..]);
+    bits[HEAD_BITS + bit_count(table)..].copy_from_slice(carried);
 }
 
 // Puts a record, as put_page does, from the counts and the bits that its kind uses.
@@ -313,30 +285,26 @@ fn put_parts(
     counts: &[i64],
     carried: &[u8],
     bits: &mut [u8],
-) -> Answer
+) -> Result<(), Refusal>
     requires { (length counts.now ≡ length (page_fields kind)) × (HEAD_BITS + bit_count (page_fields kind) + length carried.now ≡ PAGE_BITS) }
     ensures { (result ≡ parts_answer kind number counts.now carried.now bits.old)
         × (bits.new ≡ parts_bytes prn kind number counts.now carried.now bits.old) }
 {
     if bits.len() != PAGE_BITS {
-        return refuse(LENGTH, 0);
+        return Err(Rule::Length.at(0));
     }
     let bad = first_not_bit(carried);
     if bad != carried.len() {
-        return refuse(NOT_A_BIT, bad);
+        return Err(Rule::NotABit.at(bad));
     }
-    match judge_record(kind, number, counts) {
-        Answer::Done => {
-            write_page(prn, number, table_of(kind), counts, carried, bits);
-            Answer::Done
-        }
-        Answer::Refused(r) => Answer::Refused(r),
-    }
+    judge_record(kind, number, counts)?;
+    write_page(prn, number, table_of(kind), counts, carried, bits);
+    Ok(())
 }
 
 // Puts a record into 250 bytes; refused 1, 2 at the first of its bits that is neither 0 nor 1, then 9 at 9 for a page number that is
 // not its own, or at the first bit of the first field out of its range. On a refusal the bytes stay.
-pub fn put_page(page: Page, bits: &mut [u8]) -> Answer
+pub fn put_page(page: Page, bits: &mut [u8]) -> Result<(), Refusal>
     ensures { (result ≡ put_page_answer page bits.old) × (bits.new ≡ put_page_bytes page bits.old) }
 {
     let kind = page.kind;

@@ -1,14 +1,15 @@
 // The record of subframe 2: 33 counts, and the 576 bits that stand for them.
 ghost use Rattle.std.specs.Prelude.{◌≡◌, length};
+ghost use Rattle.words.specs.Refusal.{given_by};
 ghost use Rattle.fields.specs.Table.{fields_in};
 ghost use Rattle.fields.specs.Counts.{counts_in};
-ghost use Rattle.fields.specs.Subframe2.{BITS_2, no_fields, fields_by, fields_answer, fields_read, counts_judged, fields_written, fields_bytes};
+ghost use Rattle.fields.specs.Subframe2.{BITS_2, fields_answer, fields_read, counts_judged, fields_written, fields_bytes};
 ghost use Rattle.fields.specs.declared.table.Table.TheVariants.{Subframe2};
 
 use super::counts::{first_out, read_counts, write_counts};
 use super::table::{Table, bit_count};
 use words::bits::{first_not_bit, put_number, take_number};
-use words::refusal::{Answer, FIELD_2, LENGTH, NOT_A_BIT, refuse};
+use words::refusal::{Refusal, Rule};
 
 // Where each field's count stands among the 33.
 pub const WN: usize = 0;
@@ -77,87 +78,59 @@ pub const ISCD: usize = 31;
 
 pub const ISF: usize = 32;
 
-// What reading the fields gives: the counts, or a refusal with zeros beside it.
-#[derive(Clone, Copy)]
-pub struct Fields {
-    pub answer: Answer,
-    pub counts: [i64; 33],
-}
-
-// A refusal, with zeros beside it.
-pub fn no_fields(number: u8, place: usize) -> Fields
-    ensures { result ≡ no_fields number place }
-{
-    Fields {
-        answer: refuse(number, place),
-        counts: [0i64; 33],
-    }
-}
-
 // The 33 counts of 576 bits; refused 6 at the first bit of the first field out of range, or at 567 for reserved bits.
-fn judged_fields(bits: &[u8]) -> Fields
+fn judged_fields(bits: &[u8]) -> Result<[i64; 33], Refusal>
     requires { length bits.now ≡ BITS_2 }
-    ensures { result ≡ fields_by (fields_answer bits.now) (counts_in (fields_in Subframe2) bits.now) }
+    ensures { result ≡ given_by (fields_answer bits.now) (counts_in (fields_in Subframe2) bits.now) }
 {
     let mut counts = [0i64; 33];
     read_counts(Table::Subframe2, bits, 0, &mut counts);
-    let out = first_out(Table::Subframe2, 0, &counts);
-    if out != 0 {
-        return no_fields(FIELD_2, out);
-    }
+    judge_counts(&counts)?;
     let end = bit_count(Table::Subframe2);
     if take_number(bits, end, 10) != 0 {
-        return no_fields(FIELD_2, end + 1);
+        return Err(Rule::Field2.at(end + 1));
     }
-    Fields {
-        answer: Answer::Done,
-        counts,
-    }
+    Ok(counts)
 }
 
 // The 33 counts of 576 bits; refused 1, 2, then 6 at the first bit of the first field out of range, or at 567 for reserved bits.
-pub fn read_fields(bits: &[u8]) -> Fields
+pub fn read_fields(bits: &[u8]) -> Result<[i64; 33], Refusal>
     ensures { result ≡ fields_read bits.now }
 {
     if bits.len() != 576 {
-        return no_fields(LENGTH, 0);
+        return Err(Rule::Length.at(0));
     }
     let bad = first_not_bit(bits);
     if bad != bits.len() {
-        return no_fields(NOT_A_BIT, bad);
+        return Err(Rule::NotABit.at(bad));
     }
     judged_fields(bits)
 }
 
 // Judges 33 counts: refused 1 at 0 for another number of counts, then 6 at the first bit of the first field out of range.
-pub fn judge_counts(counts: &[i64]) -> Answer
+pub fn judge_counts(counts: &[i64]) -> Result<(), Refusal>
     ensures { result ≡ counts_judged counts.now }
 {
     let unfit = counts.len() != 33;
     if unfit {
-        return refuse(LENGTH, 0);
+        return Err(Rule::Length.at(0));
     }
     let out = first_out(Table::Subframe2, 0, counts);
     if out != 0 {
-        return refuse(FIELD_2, out);
+        return Err(Rule::Field2.at(out));
     }
-    Answer::Done
+    Ok(())
 }
 
 // The bits of 33 counts, into 576 bytes; refused 1, then 6 at the first bit of the first field out of range.
-pub fn write_fields(counts: &[i64], bits: &mut [u8]) -> Answer
+pub fn write_fields(counts: &[i64], bits: &mut [u8]) -> Result<(), Refusal>
     ensures { (result ≡ fields_written counts.now bits.old)
         × (bits.new ≡ fields_bytes counts.now bits.old) }
 {
     if bits.len() != 576 {
-        return refuse(LENGTH, 0);
+        return Err(Rule::Length.at(0));
     }
-    match judge_counts(counts) {
-        Answer::Refused(r) => refuse(r.number, r.place),
-        Answer::Done => {
-            write_counts(Table::Subframe2, counts, bits, 0);
-            put_number(bits, bit_count(Table::Subframe2), 10, 0);
-            Answer::Done
-        }
-    }
+    judge_counts(counts)?;
+    write_counts(Table::Subframe2, counts, bits, 0);
+    put_number(bits, bit_count(Table::Subframe2), 10, 0)
 }

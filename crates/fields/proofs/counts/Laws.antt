@@ -16,7 +16,8 @@ use borrow.Author.Tests.{ltb-true, le-leb, lt-ltb}
 use mir.Syntax.{w64}
 use mir.Val.{SFits, to_z, of_z}
 use mir.ValLaws.{to_z-of_z}
-use Rattle.words.specs.Bits.{value_of, bits_of, signed_of, bits_at, is_inside, holds_signed, put_bytes, number_bytes, signed_bytes}
+use Rattle.words.specs.Refusal.{Done}
+use Rattle.words.specs.Bits.{value_of, bits_of, signed_of, bits_at, is_inside, holds_signed, put_bytes, number_answer, number_bytes, signed_bytes}
 use Rattle.words.specs.Laws.Digits.{length_bits}
 use Rattle.fields.specs.Table.{usable}
 use Rattle.fields.specs.Counts.{count_of, bits_for, in_range}
@@ -64,6 +65,10 @@ module _ (f : Field) (l : List ℕ) (at : ℕ) (few : f.width < 64) where
       omega (arith, ap value_of part, value_below f.width (drop at l), pow_mono {i = f.width} {j = 63} (omega arith))
 
 -- ---- putting
+
+-- a number that fits is put
+pub number_fits : (l : List ℕ) (at w n : ℕ) → at + w ≤ length l → n < 2 ^ w → number_answer l at w n ≡ Done
+number_fits l at w n h g = rw (le-leb (at + w) (length l) h, lt-ltb n (2 ^ w) g) refl
 
 -- a number put into its place, between the bytes before and behind it
 pub number_put : (l : List ℕ) (at w n : ℕ) → at + w ≤ length l → n < 2 ^ w → number_bytes l at w n ≡ take at l ++ bits_of w n ++ drop (at + w) l

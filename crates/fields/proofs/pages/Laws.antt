@@ -1,31 +1,28 @@
 -- What the functions on pages do, step by step.
 -- Assumes nothing.
 use mathlib.Core.Path.{◌≡◌, sym, ap, ap₂, ◌∙◌}
-use mathlib.Core.Bool.{Bool}
 use mathlib.Core.List.{List, ◌++◌, append_assoc, append-nil}
 use Prim.Native.Nat.{ℕ, ◌+◌, ◌-◌, ◌^◌, ◌≤◌, ◌<◌}
 use native.Mathlib.Omega.{arith}
 use lib.IntN.{ℤ, pos}
 use lib.ListN.{length, take, drop, replicate, length-append, length-drop, length-replicate, drop_of_length-le, replicate-append-replicate}
 use lib.Pow.{pow_mono}
-use lib.Seq.{take_at, drop_at, take_all, length-take-le, drop-drop}
-use borrow.Author.Tests.{eq-eqb}
-use Rattle.words.specs.Bits.{value_of, bits_of, number_bytes, copy_bytes}
-use Rattle.words.specs.Refusal.{left_if, left_by}
+use lib.Seq.{take_at, drop_at, take_all, drop-drop}
+use Rattle.words.specs.Bits.{value_of, bits_of, number_bytes}
+use Rattle.words.specs.Refusal.{left_by, Answer, Done}
 use Rattle.words.specs.Laws.Digits.{length_bits}
-use Rattle.words.specs.declared.refusal.Answer.{Answer}
-use Rattle.words.specs.declared.refusal.Answer.TheVariants.{Done, Refused}
 use Rattle.words.specs.declared.refusal.Refusal.{Refusal}
-use Rattle.fields.specs.Table.{bit_count}
+use Rattle.fields.specs.Table.{fields_in, bit_count}
 use Rattle.fields.specs.Counts.{bits_of_counts}
-use Rattle.fields.specs.Pages.{page_fields, page_counts, record_of, no_page, taken_by, page_from}
+use Rattle.fields.specs.Pages.{table_of, page_fields, page_counts, record_of, page_from}
 use Rattle.fields.specs.CountsBack.{length_counts, length_bits_of}
 use Rattle.fields.specs.Laws.Counts.{value_below}
 use Rattle.fields.specs.Laws.Pages.{few_counts, few_bits}
 use Rattle.fields.proofs.counts.Laws.{number_put}
+use Rattle.fields.specs.declared.table.Table.{Table}
 use Rattle.fields.specs.declared.pages.Kind.{Kind}
-use Rattle.fields.specs.declared.pages.Page.{Page}
 use Rattle.fields.specs.declared.table.Field.{Field}
+use Rattle.std.specs.Prelude.{Err}
 
 -- ---- taking
 
@@ -56,33 +53,22 @@ length_record_counts kind l zs e =
     ap length e ∙ length-append (page_counts kind l) zeros
     ∙ omega (arith, few_counts kind, length_counts (page_fields kind) (drop 14 l), length-replicate (30 - length (page_fields kind)) (pos 0))
 
--- bytes copied over as many
-bytes_copied : (from into out : List ℕ) → length from ≡ length into → out ≡ copy_bytes from into → out ≡ from
-bytes_copied from into out e f = f ∙ ap (λ (t : Bool). left_if t from into) (eq-eqb (length from) (length into) e)
+-- the bits of a kind's fields, counted by its table
+pub kind_bits : (kind : Kind) (t : Table) (b : ℕ) → t ≡ table_of kind → b ≡ bit_count (fields_in t) → b ≡ bit_count (page_fields kind)
+kind_bits kind t b e f = f ∙ ap (λ (x : Table). bit_count (fields_in x)) e
 
 -- bits copied into the front of zeros
 pub carried_are : (kind : Kind) (l : List ℕ) (b : ℕ) (new zeros : List ℕ) → b ≡ bit_count (page_fields kind) → length l ≡ 250
-    → new ≡ copy_bytes (take (length l - (14 + b)) (drop (14 + b) l)) (take (250 - (14 + b)) zeros) → zeros ≡ replicate 236 0
+    → new ≡ take (length l - (14 + b)) (drop (14 + b) l) → zeros ≡ replicate 236 0
     → new ++ drop (250 - (14 + b)) zeros ≡ (record_of kind l).bits
 carried_are kind l b new zeros e n f g =
     let few = few_bits kind in
-    let long : length zeros ≡ 236 = ap length g ∙ length-replicate {A = ℕ} 236 0 in
     let rest : List ℕ = drop (14 + b) l in
-    let count : length rest ≡ length l - (14 + b) = length-drop (14 + b) l in
-    let whole : take (length l - (14 + b)) rest ≡ rest = take_all (length l - (14 + b)) rest (omega arith) in
-    let there : length (take (250 - (14 + b)) zeros) ≡ 250 - (14 + b) = length-take-le (250 - (14 + b)) zeros (omega arith) in
-    let as_many : length (take (length l - (14 + b)) rest) ≡ length (take (250 - (14 + b)) zeros) = ap length whole ∙ omega arith in
+    let whole : take (length l - (14 + b)) rest ≡ rest = take_all (length l - (14 + b)) rest (omega (arith, length-drop (14 + b) l)) in
     let left : 236 - (250 - (14 + b)) ≡ 236 - (236 - bit_count (page_fields kind)) = omega arith in
     ap₂ (λ (x y : List ℕ). x ++ y)
-    (bytes_copied (take (length l - (14 + b)) rest) (take (250 - (14 + b)) zeros) new as_many f ∙ whole ∙ ap (λ (k : ℕ). drop (14 + k) l) e)
+    (f ∙ whole ∙ ap (λ (k : ℕ). drop (14 + k) l) e)
     (ap (drop (250 - (14 + b))) g ∙ rest_same 0 236 (250 - (14 + b)) (omega arith) ∙ ap (λ (k : ℕ). replicate k 0) left)
-
--- what is taken by an answer
-pub taken_done : (a : Answer) (p q : Page) → a ≡ Done → p ≡ q → record { answer = Done; page = p } ≡ taken_by a q
-taken_done a p q e f = ap (λ (x : Page). record { answer = Done; page = x }) f ∙ ap (λ (x : Answer). taken_by x q) (sym e)
-
-pub taken_refused : (a : Answer) (r : Refusal) (p q : Page) → a ≡ Refused r → p ≡ no_page → record { answer = Refused r; page = p } ≡ taken_by a q
-taken_refused a r p q e f = ap (λ (x : Page). record { answer = Refused r; page = x }) f ∙ ap (λ (x : Answer). taken_by x q) (sym e)
 
 -- ---- putting
 
@@ -90,7 +76,7 @@ taken_refused a r p q e f = ap (λ (x : Page). record { answer = Refused r; page
 pub left_done : (a : Answer) (out new l : List ℕ) → a ≡ Done → out ≡ new → out ≡ left_by a new l
 left_done a out new l e f = f ∙ ap (λ (x : Answer). left_by x new l) (sym e)
 
-pub left_refused : (a : Answer) (r : Refusal) (new l : List ℕ) → a ≡ Refused r → l ≡ left_by a new l
+pub left_refused : (a : Answer) (r : Refusal) (new l : List ℕ) → a ≡ Err r → l ≡ left_by a new l
 left_refused a r new l e = ap (λ (x : Answer). left_by x new l) (sym e)
 
 -- PRN and page number put before the body
@@ -110,7 +96,7 @@ head_put l first second prn number n p q e f =
 pub page_put : (fs : List Field) (l head body new bits : List ℕ) (prn number b : ℕ) (zs : List ℤ) → length l ≡ 250 → length zs ≡ length fs
     → 14 + bit_count fs + length bits ≡ 250 → b ≡ bit_count fs → head ≡ bits_of 8 prn ++ (bits_of 6 number ++ drop 14 l)
     → body ≡ take 14 head ++ (bits_of_counts fs zs ++ drop (14 + bit_count fs) head)
-    → new ≡ copy_bytes bits (take (length body - (14 + b)) (drop (14 + b) body))
+    → new ≡ bits
     → take (14 + b) body ++ (new ++ drop (length body - (14 + b)) (drop (14 + b) body)) ≡ page_from prn number fs zs bits
 page_put fs l head body new bits prn number b zs n m long e h g f =
     let p : List ℕ = bits_of 8 prn in
@@ -131,10 +117,8 @@ page_put fs l head body new bits prn number b zs n m long e h g f =
     let body_long : length body ≡ 250 = ap length body_is ∙ length-append ((p ++ q) ++ counts) rest ∙ omega arith in
     let behind : drop (14 + b) body ≡ rest = ap (drop (14 + b)) body_is ∙ drop_at ((p ++ q) ++ counts) rest (14 + b) front in
     let behind_long : length (drop (14 + b) body) ≡ length bits = ap length behind ∙ rest_long in
-    let part : take (length body - (14 + b)) (drop (14 + b) body) ≡ drop (14 + b) body =
-    take_all (length body - (14 + b)) (drop (14 + b) body) (omega arith) in
     ap₂ (λ (x y : List ℕ). x ++ y) (ap (take (14 + b)) body_is ∙ take_at ((p ++ q) ++ counts) rest (14 + b) front)
     (ap₂ (λ (x y : List ℕ). x ++ y)
-    (bytes_copied bits (take (length body - (14 + b)) (drop (14 + b) body)) new (sym (ap length part ∙ behind_long)) f)
+    f
     (drop_of_length-le (drop (14 + b) body) {i = length body - (14 + b)} (omega arith)) ∙ append-nil bits)
     ∙ append_assoc (p ++ q) counts bits ∙ append_assoc p q (counts ++ bits)

@@ -2,95 +2,30 @@
 -- Assumes nothing.
 use mathlib.Core.Path.{◌≡◌, refl, sym, ap, ap₂, ◌∙◌}
 use mathlib.Core.Bool.{Bool, true, false, cond, ◌&&◌}
-use mathlib.Core.List.{List, ◌++◌, append-nil}
+use mathlib.Core.List.{List, [], ◌++◌, append-nil}
 use Prim.Native.Nat.{ℕ, ◌+◌}
 use native.Mathlib.Omega.{arith}
 use lib.Dec.{eqb, lit<}
 use lib.IntN.{ℤ}
 use lib.ListN.{length, take, drop, drop_of_length-le}
 use lib.Seq.{take_at}
-use borrow.Author.Tests.{eq-eqb, ne_eqb, eqb-true}
+use borrow.Author.Tests.{eq-eqb, ne_eqb, eqb-true, eqb-false}
 use Rattle.words.specs.Bits.{first_not_bit, value_of, bits_of, bits_at, number_bytes}
-use Rattle.words.specs.Refusal.{LENGTH, NOT_A_BIT, FIELD_2, refused_at, done_if, in_turn, left_if, left_by}
+use Rattle.words.specs.Refusal.{LENGTH, NOT_A_BIT, FIELD_2, refused_at, done_if, in_turn, left_if, left_by, given_by, Answer, Done}
 use Rattle.words.specs.Laws.Digits.{bits_none, none_not_bit}
-use Rattle.words.specs.Laws.Turns.{both_done, test_done}
-use Rattle.words.specs.declared.refusal.Answer.{Answer}
-use Rattle.words.specs.declared.refusal.Answer.TheVariants.{Done}
+use Rattle.words.specs.Laws.Turns.{both_done, test_done, not_done}
 use Rattle.fields.specs.Table.{fields_in, bit_count}
 use Rattle.fields.specs.Counts.{counts_in, bits_of_counts, first_out}
-use Rattle.fields.specs.Subframe2.{bits2, first_out2, fields_answer, no_fields, fields_by, fields_read, counts_answer, counts_judged, fields_written, fields_bytes}
+use Rattle.fields.specs.Subframe2.{bits2, first_out2, fields_answer, fields_read, counts_answer, counts_judged, fields_written, fields_bytes}
 use Rattle.fields.specs.Laws.Answers.{judged_bits, judged_right, judged_length, judged_byte}
 use Rattle.fields.specs.Laws.Table.{count_subframe2, bits_subframe2}
 use Rattle.fields.specs.Laws.Counts.{out_of_two}
 use Rattle.fields.specs.Laws.Subframe2.{spare, bits2_is, first_out2_lem}
 use Rattle.fields.specs.CountsBack.{length_bits_of}
 use Rattle.fields.proofs.counts.Laws.{number_put}
-use Rattle.fields.specs.declared.subframe2.Fields.{Fields}
+use Rattle.words.specs.declared.refusal.Refusal.{Refusal}
+use Rattle.std.specs.Prelude.{Result, Ok, Err}
 use Rattle.fields.specs.declared.table.Table.TheVariants.{Subframe2}
-
--- ---- reading
-
-module _ (l : List ℕ) where
-  -- the answer by the place of the first field out of range
-  by_place : (p : ℕ) → first_out2 l ≡ p → fields_by (done_if (eqb p 0) FIELD_2 p) (counts_in (fields_in Subframe2) l)
-      ≡ fields_by (fields_answer l) (counts_in (fields_in Subframe2) l)
-  by_place p e = ap (λ (q : ℕ). fields_by (done_if (eqb q 0) FIELD_2 q) (counts_in (fields_in Subframe2) l)) (sym e)
-
-  refused_at_lem : (p : ℕ) → first_out2 l ≡ p → (p ≡ 0 → ⊥) → no_fields FIELD_2 p ≡ fields_by (fields_answer l) (counts_in (fields_in Subframe2) l)
-  refused_at_lem p e n =
-      ap (λ (t : Bool). fields_by (done_if t FIELD_2 p) (counts_in (fields_in Subframe2) l)) (sym (ne_eqb p 0 n)) ∙ by_place p e
-
-  -- a count out of range
-  pub count_out : (counts : List ℤ) (p : ℕ) → counts ≡ counts_in (fields_in Subframe2) l → p ≡ first_out 0 (fields_in Subframe2) counts
-      → (p ≡ 0 → ⊥) → no_fields FIELD_2 p ≡ fields_by (fields_answer l) (counts_in (fields_in Subframe2) l)
-  count_out counts p c e n =
-      let q : p ≡ first_out 0 (fields_in Subframe2) (counts_in (fields_in Subframe2) l) = e ∙ ap (first_out 0 (fields_in Subframe2)) c in
-      refused_at_lem p
-      (first_out2_lem l ∙ ap (λ (a : ℕ). out_of_two a (cond (eqb (spare l) 0) 0 567)) (sym q)
-      ∙ ap (λ (t : Bool). cond t (cond (eqb (spare l) 0) 0 567) p) (ne_eqb p 0 n)) n
-
-  -- none of the 33: the reserved bits decide
-  within_range : (counts : List ℤ) → counts ≡ counts_in (fields_in Subframe2) l → first_out 0 (fields_in Subframe2) counts ≡ 0
-      → first_out2 l ≡ cond (eqb (spare l) 0) 0 567
-  within_range counts c e =
-      first_out2_lem l
-      ∙ ap (λ (a : ℕ). out_of_two a (cond (eqb (spare l) 0) 0 567)) (ap (first_out 0 (fields_in Subframe2)) (sym c) ∙ e)
-
-  -- the number of the reserved bits, as it is taken
-  pub spare_is : (v end : ℕ) → v ≡ value_of (bits_at l end 10) → end ≡ bit_count (fields_in Subframe2) → v ≡ spare l
-  spare_is v end e f = e ∙ ap (λ (n : ℕ). value_of (take 10 (drop n l))) f
-
-  -- reserved bits set
-  pub spare_set : (counts : List ℤ) (p : ℕ) → counts ≡ counts_in (fields_in Subframe2) l → first_out 0 (fields_in Subframe2) counts ≡ 0
-      → (spare l ≡ 0 → ⊥) → p ≡ bit_count (fields_in Subframe2) + 1
-      → no_fields FIELD_2 p ≡ fields_by (fields_answer l) (counts_in (fields_in Subframe2) l)
-  spare_set counts p c e n f =
-      let place : 567 ≡ p = omega (arith, bits_subframe2) in
-      refused_at_lem p (within_range counts c e ∙ ap (λ (t : Bool). cond t 0 567) (ne_eqb (spare l) 0 n) ∙ place) (λ z. omega arith)
-
-  -- all in range
-  pub all_in : (counts : List ℤ) → counts ≡ counts_in (fields_in Subframe2) l → first_out 0 (fields_in Subframe2) counts ≡ 0 → spare l ≡ 0
-      → ◌≡◌ {A = Fields} (record { answer = Done; counts = counts }) (fields_by (fields_answer l) (counts_in (fields_in Subframe2) l))
-  all_in counts c e n =
-      ap (λ (x : List ℤ). fields_by Done x) c
-      ∙ by_place 0 (within_range counts c e ∙ ap (λ (v : ℕ). cond (eqb v 0) 0 567) n)
-
-  -- what is judged before
-  by_answer : (a : Answer) → judged_bits 576 (length l) l (fields_answer l) ≡ a → fields_by a (counts_in (fields_in Subframe2) l) ≡ fields_read l
-  by_answer a e = ap (λ (x : Answer). fields_by x (counts_in (fields_in Subframe2) l)) (sym e)
-
-  pub wrong_length : (length l ≡ 576 → ⊥) → no_fields LENGTH 0 ≡ fields_read l
-  wrong_length n = by_answer (refused_at LENGTH 0) (judged_length 576 (length l) l (fields_answer l) n)
-
-  pub wrong_byte : length l ≡ 576 → (p : ℕ) → p ≡ first_not_bit l → (p ≡ length l → ⊥) → no_fields NOT_A_BIT p ≡ fields_read l
-  wrong_byte e p q n =
-      ap (no_fields NOT_A_BIT) q
-      ∙ by_answer (refused_at NOT_A_BIT (first_not_bit l)) (judged_byte 576 (length l) l (fields_answer l) e (λ h. n (q ∙ bits_none l h)))
-
-  pub right_bits : length l ≡ 576 → (p : ℕ) → p ≡ first_not_bit l → p ≡ length l
-      → fields_by (fields_answer l) (counts_in (fields_in Subframe2) l) ≡ fields_read l
-  right_bits e p q n =
-      by_answer (fields_answer l) (judged_right 576 (length l) l (fields_answer l) e (none_not_bit l (sym q ∙ n)))
 
 -- ---- judging counts
 
@@ -116,20 +51,87 @@ module _ (zs : List ℤ) where
         eqb-true (first_out 0 (fields_in Subframe2) zs) 0 (test_done (eqb (first_out 0 (fields_in Subframe2) zs) 0) FIELD_2 (first_out 0 (fields_in Subframe2) zs) b.1),
       )
 
+-- ---- reading
+
+module _ (l : List ℕ) where
+  -- the answer by the place of the first field out of range
+  by_place : (p : ℕ) → first_out2 l ≡ p → given_by (done_if (eqb p 0) FIELD_2 p) (counts_in (fields_in Subframe2) l)
+      ≡ given_by (fields_answer l) (counts_in (fields_in Subframe2) l)
+  by_place p e = ap (λ (q : ℕ). given_by (done_if (eqb q 0) FIELD_2 q) (counts_in (fields_in Subframe2) l)) (sym e)
+
+  refused_at_lem : (p : ℕ) → first_out2 l ≡ p → (p ≡ 0 → ⊥) → refused_at FIELD_2 p ≡ given_by (fields_answer l) (counts_in (fields_in Subframe2) l)
+  refused_at_lem p e n =
+      ap (λ (t : Bool). given_by (done_if t FIELD_2 p) (counts_in (fields_in Subframe2) l)) (sym (ne_eqb p 0 n)) ∙ by_place p e
+
+  -- a count out of range
+  pub count_out : (counts : List ℤ) (p : ℕ) → counts ≡ counts_in (fields_in Subframe2) l → p ≡ first_out 0 (fields_in Subframe2) counts
+      → (p ≡ 0 → ⊥) → refused_at FIELD_2 p ≡ given_by (fields_answer l) (counts_in (fields_in Subframe2) l)
+  count_out counts p c e n =
+      let q : p ≡ first_out 0 (fields_in Subframe2) (counts_in (fields_in Subframe2) l) = e ∙ ap (first_out 0 (fields_in Subframe2)) c in
+      refused_at_lem p
+      (first_out2_lem l ∙ ap (λ (a : ℕ). out_of_two a (cond (eqb (spare l) 0) 0 567)) (sym q)
+      ∙ ap (λ (t : Bool). cond t (cond (eqb (spare l) 0) 0 567) p) (ne_eqb p 0 n)) n
+
+  -- so judging the counts that were read refuses as reading does
+  pub count_judged : (counts : List ℤ) (r : Refusal) → counts ≡ counts_in (fields_in Subframe2) l → length counts ≡ 33 → counts_judged counts ≡ Err r
+      → Err r ≡ given_by (fields_answer l) (counts_in (fields_in Subframe2) l)
+  count_judged counts r c n e = go (eqb place 0) refl
+    where
+      place : ℕ
+      place = first_out 0 (fields_in Subframe2) counts
+
+      go : (t : Bool) → eqb place 0 ≡ t → Err r ≡ given_by (fields_answer l) (counts_in (fields_in Subframe2) l)
+      go true q = absurd (not_done r.number r.place (sym e ∙ sym (none_out counts place refl n (eqb-true place 0 q))))
+      go false q =
+          ap (λ (a : Answer). given_by a []) (sym e ∙ sym (some_out counts place refl n (eqb-false place 0 q)))
+          ∙ count_out counts place c refl (eqb-false place 0 q)
+
+  -- none of the 33: the reserved bits decide
+  within_range : (counts : List ℤ) → counts ≡ counts_in (fields_in Subframe2) l → first_out 0 (fields_in Subframe2) counts ≡ 0
+      → first_out2 l ≡ cond (eqb (spare l) 0) 0 567
+  within_range counts c e =
+      first_out2_lem l
+      ∙ ap (λ (a : ℕ). out_of_two a (cond (eqb (spare l) 0) 0 567)) (ap (first_out 0 (fields_in Subframe2)) (sym c) ∙ e)
+
+  -- the number of the reserved bits, as it is taken
+  pub spare_is : (v end : ℕ) → v ≡ value_of (bits_at l end 10) → end ≡ bit_count (fields_in Subframe2) → v ≡ spare l
+  spare_is v end e f = e ∙ ap (λ (n : ℕ). value_of (take 10 (drop n l))) f
+
+  -- reserved bits set
+  pub spare_set : (counts : List ℤ) (p : ℕ) → counts ≡ counts_in (fields_in Subframe2) l → first_out 0 (fields_in Subframe2) counts ≡ 0
+      → (spare l ≡ 0 → ⊥) → p ≡ bit_count (fields_in Subframe2) + 1
+      → refused_at FIELD_2 p ≡ given_by (fields_answer l) (counts_in (fields_in Subframe2) l)
+  spare_set counts p c e n f =
+      let place : 567 ≡ p = omega (arith, bits_subframe2) in
+      refused_at_lem p (within_range counts c e ∙ ap (λ (t : Bool). cond t 0 567) (ne_eqb (spare l) 0 n) ∙ place) (λ z. omega arith)
+
+  -- all in range
+  pub all_in : (counts : List ℤ) → counts ≡ counts_in (fields_in Subframe2) l → first_out 0 (fields_in Subframe2) counts ≡ 0 → spare l ≡ 0
+      → ◌≡◌ {A = Result (List ℤ) Refusal} (Ok counts) (given_by (fields_answer l) (counts_in (fields_in Subframe2) l))
+  all_in counts c e n =
+      ap (λ (x : List ℤ). given_by Done x) c
+      ∙ by_place 0 (within_range counts c e ∙ ap (λ (v : ℕ). cond (eqb v 0) 0 567) n)
+
+  -- what is judged before
+  by_answer : (a : Answer) → judged_bits 576 (length l) l (fields_answer l) ≡ a → given_by a (counts_in (fields_in Subframe2) l) ≡ fields_read l
+  by_answer a e = ap (λ (x : Answer). given_by x (counts_in (fields_in Subframe2) l)) (sym e)
+
+  pub wrong_length : (length l ≡ 576 → ⊥) → refused_at LENGTH 0 ≡ fields_read l
+  wrong_length n = by_answer (refused_at LENGTH 0) (judged_length 576 (length l) l (fields_answer l) n)
+
+  pub wrong_byte : length l ≡ 576 → (p : ℕ) → p ≡ first_not_bit l → (p ≡ length l → ⊥) → refused_at NOT_A_BIT p ≡ fields_read l
+  wrong_byte e p q n =
+      ap (refused_at NOT_A_BIT) q
+      ∙ by_answer (refused_at NOT_A_BIT (first_not_bit l)) (judged_byte 576 (length l) l (fields_answer l) e (λ h. n (q ∙ bits_none l h)))
+
+  pub right_bits : length l ≡ 576 → (p : ℕ) → p ≡ first_not_bit l → p ≡ length l
+      → given_by (fields_answer l) (counts_in (fields_in Subframe2) l) ≡ fields_read l
+  right_bits e p q n =
+      by_answer (fields_answer l) (judged_right 576 (length l) l (fields_answer l) e (none_not_bit l (sym q ∙ n)))
+
 -- ---- writing
 
 module _ (zs : List ℤ) (out : List ℕ) where
-  pub wrong_length_out : (r : Answer) → (length out ≡ 576 → ⊥) → r ≡ refused_at LENGTH 0 → (r ≡ fields_written zs out) × (out ≡ fields_bytes zs out)
-  wrong_length_out r n q = go (eqb (length zs) 33) (eqb (length out) 576) (ne_eqb (length out) 576 n)
-    where
-      none : Bool
-      none = eqb (first_out 0 (fields_in Subframe2) zs) 0
-
-      go : (s t : Bool) → t ≡ false → (r ≡ in_turn (done_if (s && t) LENGTH 0) (counts_answer zs)) × (out ≡ left_if (s && t && none) (bits2 zs) out)
-      go true true e = absurd (let z : ◌≡◌ {A = ℕ} 0 1 = cc in omega arith)
-      go true false e = (q, refl)
-      go false t e = (q, refl)
-
   -- into 576 bytes, the counts alone decide
   pub by_counts : length out ≡ 576 → (fields_written zs out ≡ counts_judged zs) × (fields_bytes zs out ≡ left_by (counts_judged zs) (bits2 zs) out)
   by_counts m = go (eqb (length zs) 33) (eqb (first_out 0 (fields_in Subframe2) zs) 0) (eqb (length out) 576) (eq-eqb (length out) 576 m)
@@ -144,12 +146,6 @@ module _ (zs : List ℤ) (out : List ℕ) where
       go true false true e = (refl, refl)
       go false none true e = (refl, refl)
       go s none false e = absurd (let z : ◌≡◌ {A = ℕ} 0 1 = cc in omega arith)
-
-  pub judged_refused : length out ≡ 576 → (r : Answer) (n p : ℕ) → r ≡ refused_at n p → counts_judged zs ≡ refused_at n p
-      → (r ≡ fields_written zs out) × (out ≡ fields_bytes zs out)
-  judged_refused m r n p q e =
-      let b = by_counts m in
-      (q ∙ sym e ∙ sym b.0, sym (b.1 ∙ ap (λ (a : Answer). left_by a (bits2 zs) out) e))
 
   pub judged_done : length out ≡ 576 → counts_judged zs ≡ Done → (new : List ℕ) → new ≡ bits2 zs
       → (Done ≡ fields_written zs out) × (new ≡ fields_bytes zs out)

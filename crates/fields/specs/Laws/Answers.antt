@@ -3,11 +3,9 @@
 use Rattle.std.specs.Prelude.{◌≡◌, refl, Bool, List, ◌≢◌, ℕ, eqb, ℤ, length}
 use Rattle.std.proofs.Common.{ap, ◌∙◌, arith, eqb-true, eq-eqb, ne_eqb}
 use Rattle.words.specs.Bits.{IsBits, first_not_bit}
-use Rattle.words.specs.Refusal.{LENGTH, NOT_A_BIT, refused_at, done_if, judged}
+use Rattle.words.specs.Refusal.{LENGTH, NOT_A_BIT, refused_at, done_if, judged, Answer, Done}
 use Rattle.words.specs.Laws.Digits.{bits_none, none_not_bit}
 use Rattle.words.specs.Laws.Turns.{test_done, judged_on, judged_done}
-use Rattle.words.specs.declared.refusal.Answer.{Answer}
-use Rattle.words.specs.declared.refusal.Answer.TheVariants.{Done}
 use Rattle.fields.specs.Counts.{first_out, FirstOutAt, out_answer}
 use Rattle.fields.specs.CountsBack.{first_out_when}
 use Rattle.fields.specs.declared.table.Field.{Field}

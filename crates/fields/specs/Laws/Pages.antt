@@ -5,20 +5,17 @@ use Rattle.std.proofs.Common.{sym, ap, ◌∙◌, inl, inr, ⊎_elim, arith, len
 use Rattle.std.proofs.Math.Bool.{and-eq-true_iff}
 use Rattle.std.proofs.lemmas.Bool.{eqb-false, not-true}
 use Rattle.words.specs.Bits.{IsBits, first_not_bit, value_of}
-use Rattle.words.specs.Refusal.{LENGTH, NOT_A_BIT, FIELD_3, done_if, in_turn, judged, number_of, place_of}
+use Rattle.words.specs.Refusal.{LENGTH, NOT_A_BIT, FIELD_3, done_if, in_turn, judged, number_of, place_of, Answer}
 use Rattle.words.specs.Laws.Digits.{bits_none, none_not_bit}
-use Rattle.words.specs.declared.refusal.Answer.{Answer}
-use Rattle.words.specs.declared.refusal.Answer.TheVariants.{Done, Refused}
 use Rattle.fields.specs.Table.{fields_in, bit_count, page6_rows}
 use Rattle.fields.specs.Counts.{count_of, counts_in, in_range, first_out, FirstOutAt}
-use Rattle.fields.specs.Pages.{kind_of, page_fields, page_counts, record_of, counts_answer3, taken_by, is_own}
+use Rattle.fields.specs.Pages.{kind_of, page_fields, page_counts, record_of, counts_answer3, is_own}
 use Rattle.fields.specs.CountsBack.{length_counts, first_out_is}
 use Rattle.fields.specs.Laws.Answers.{judged_bits, counts_right}
 use Rattle.fields.specs.Laws.Counts.{value_below}
 use Rattle.fields.specs.Laws.Table.{count_page1, count_page6, count_no_fields, bits_page1, bits_page6, bits_no_fields}
 use Rattle.fields.specs.declared.pages.Kind.{Kind}
 use Rattle.fields.specs.declared.pages.Kind.TheVariants.{One, Six, Bare}
-use Rattle.fields.specs.declared.pages.Page.{Page}
 use Rattle.fields.specs.declared.table.Field.{Field}
 use Rattle.fields.specs.declared.table.Table.TheVariants.{Page6, NoFields}
 
@@ -54,11 +51,6 @@ parts_as_long kind n b zs bits e f long carried = (
   length-take-le n zs (used_inside kind n zs e long) ∙ e,
   omega (arith, length-take-le (236 - b) bits (omega arith), few_bits kind),
 )
-
--- what taking answers
-pub taken_answer : (a : Answer) (page : Page) → (taken_by a page).answer ≡ a
-taken_answer Done page = refl
-taken_answer (Refused r) page = refl
 
 -- ---- the page number
 

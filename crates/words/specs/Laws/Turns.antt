@@ -1,8 +1,10 @@
 -- Answers that are judged in turn.
 -- Assumes nothing.
-use Rattle.std.specs.Prelude.{◌≡◌, refl, Bool, true, false, ℕ, Err, Ok}
+use Rattle.std.specs.Prelude.{◌≡◌, refl, Bool, true, false, ℕ, Result, Ok, Err}
 use Rattle.std.proofs.Common.{sym, ap, arith}
-use Rattle.words.specs.Refusal.{refused_at, done_if, in_turn, judged, number_of, Answer, Done}
+use Rattle.words.specs.Refusal.{Answer, Done, answer_of, given_by, refused_at, done_if, in_turn, judged, number_of}
+use Rattle.words.specs.declared.refusal.Refusal.{Refusal}
+use Rattle.std.specs.Result.{result_unwrap_or}
 
 -- an answer is one of the two
 pub data Answered (a : Answer) : Type 0 where
@@ -28,6 +30,16 @@ both_done (Err r) b e = absurd (not_done r.number r.place e)
 pub test_done : (t : Bool) (n p : ℕ) → done_if t n p ≡ Done → t ≡ true
 test_done true n p e = refl
 test_done false n p e = absurd (not_done n p e)
+
+-- what is given by an answer has that answer
+pub given_answer : {A : Type 0} (a : Answer) (x : A) → answer_of (given_by a x) ≡ a
+given_answer (Ok tt) x = refl
+given_answer (Err r) x = refl
+
+-- and where something is given, the answer is done, and that is it
+pub given_ok : {A : Type 0} (a : Answer) (x y : A) → given_by a x ≡ Ok y → (a ≡ Done) × (y ≡ x)
+given_ok (Ok tt) x y e = (refl, sym (ap (λ (r : Result _ Refusal). result_unwrap_or r x) e))
+given_ok (Err r) x y e = absurd (not_done r.number r.place (ap answer_of e))
 
 -- lent bytes of the right length that are bits are judged by what else is answered
 pub judged_on : (l b : Bool) (first_not : ℕ) (a : Answer) → l ≡ true → b ≡ true → judged l b first_not a ≡ a

@@ -1,55 +1,40 @@
 -- `fields::subframe2::judged_fields` meets its contract. Assumes nothing.
-use mathlib.Core.Path.{◌≡◌, sym, ◌∙◌}
+use mathlib.Core.Path.{◌≡◌, sym, ap, ◌∙◌}
 use native.Mathlib.Omega.{arith}
 use Prim.Native.Nat.{◌+◌}
+use Rattle.std.proofs.Common.{rules}
+use Rattle.std.specs.Prelude.{Err}
 use Rattle.fields.specs.Laws.Table.{count_subframe2, bits_subframe2}
-use Rattle.fields.specs.Laws.Subframe2.{spare}
-use Rattle.fields.proofs.subframe2.Laws.{count_out, spare_is, spare_set, all_in}
+use Rattle.fields.proofs.subframe2.Laws.{done_counts, count_judged, spare_is, spare_set, all_in}
 use Rattle.fields.proofs.subframe2.judged_fields.Goals as goal
 
 pub read_counts-requires : goal.read_counts-requires
 read_counts-requires c = (sym count_subframe2, omega (arith, bits_subframe2, c.requires))
 
-pub first_out-out-requires : goal.first_out-out-requires
-first_out-out-requires c = (c.read_counts.auto.counts ∙ sym count_subframe2, omega arith)
-
-pub returns-then-out-ne0 : goal.returns-then-out-ne0
-returns-then-out-ne0 c =
-    let read = c.read_counts in
-    let first = c.first_out-out in
-    c.no_fields.ensures
-    ∙ count_out c.args.bits.now read.new.counts first.result
-    read.ensures first.ensures c.if-out-ne0.true
-
 pub overflow_add-end : goal.overflow_add-end
 overflow_add-end c = omega (arith, c.bit_count-end.ensures, bits_subframe2)
 
--- the number of the reserved bits
-reserved : (c : goal.After-no_fields-then-take_number-ne0)
-    → c.take_number.result ≡ spare c.args.bits.now
-reserved c =
-    let count = c.bit_count-end in
-    spare_is c.args.bits.now c.take_number.result count.result c.take_number.ensures count.ensures
+pub returns-in_err-judge_counts : goal.returns-in_err-judge_counts
+returns-in_err-judge_counts c =
+    let refused : c.from_residual.result ≡ Err c.in_err-judge_counts.field-0.0 = search rules in
+    refused
+    ∙ count_judged c.args.bits.now c.read_counts.new.counts c.in_err-judge_counts.field-0.0
+    c.read_counts.ensures (c.read_counts.auto.counts) (sym c.judge_counts.ensures ∙ c.in_err-judge_counts.was)
 
 pub returns-then-take_number-ne0 : goal.returns-then-take_number-ne0
 returns-then-take_number-ne0 c =
-    let read = c.read_counts in
-    let first = c.first_out-out in
-    c.no_fields-then-take_number-ne0.ensures
-    ∙ spare_set c.args.bits.now read.new.counts (c.bit_count-end.result + 1)
-    read.ensures (sym first.ensures ∙ c.if-out-ne0.false)
-    (λ z. c.if-take_number-ne0.true (reserved c ∙ z)) (omega (arith, c.bit_count-end.ensures))
-
--- the number of the reserved bits
-reserved_at2 : (c : goal.Else-take_number-ne0)
-    → c.take_number.result ≡ spare c.args.bits.now
-reserved_at2 c =
-    let count = c.bit_count-end in
-    spare_is c.args.bits.now c.take_number.result count.result c.take_number.ensures count.ensures
+    let l = c.args.bits.now in
+    let end = c.bit_count-end in
+    let reserved = spare_is l c.take_number.result end.result c.take_number.ensures end.ensures in
+    let judged = done_counts c.read_counts.new.counts (sym c.judge_counts.ensures ∙ c.in_ok-judge_counts.was) in
+    ap Err c.at.ensures
+    ∙ spare_set l c.read_counts.new.counts (end.result + 1) c.read_counts.ensures judged.1
+    (λ z. c.if-take_number-ne0.true (reserved ∙ z)) (omega (arith, end.ensures))
 
 pub returns : goal.returns
 returns c =
-    let read = c.read_counts in
-    let first = c.first_out-out in
-    all_in c.args.bits.now read.new.counts read.ensures (sym first.ensures ∙ c.if-out-ne0.false)
-    (sym (reserved_at2 c) ∙ c.if-take_number-ne0.false)
+    let l = c.args.bits.now in
+    let end = c.bit_count-end in
+    let reserved = spare_is l c.take_number.result end.result c.take_number.ensures end.ensures in
+    let judged = done_counts c.read_counts.new.counts (sym c.judge_counts.ensures ∙ c.in_ok-judge_counts.was) in
+    all_in l c.read_counts.new.counts c.read_counts.ensures judged.1 (sym reserved ∙ c.if-take_number-ne0.false)
