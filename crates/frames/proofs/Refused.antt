@@ -1,39 +1,37 @@
 -- THEOREMS: demand 2, refusals. A frame is refused with number N at P exactly where document 01's table says so, in its order; with zeros
 -- beside the refusal.
 -- Assumes nothing.
-use Rattle.std.specs.Prelude.{◌≡◌, refl, List, ◌↔◌, ℕ}
+use Rattle.std.specs.Prelude.{◌≡◌, refl, List, ◌↔◌, ℕ, Err, Ok}
 use Rattle.std.proofs.Common.{ap, ◌∙◌}
-use Rattle.words.specs.Time.{time_read}
-use Rattle.words.specs.declared.refusal.Answer.{Answer}
-use Rattle.words.specs.declared.refusal.Answer.TheVariants.{Done, Refused}
+use Rattle.words.specs.Time.{time_read, corrected_read}
 use Rattle.tables.specs.declared.matrix.Subframe.{Subframe}
 use Rattle.tables.specs.declared.matrix.Subframe.TheVariants.{Two, Three}
 use Rattle.fields.specs.Table.{fields_in}
 use Rattle.fields.specs.Counts.{counts_in}
-use Rattle.fields.specs.Subframe2.{no_fields, fields_by}
 use Rattle.fields.specs.declared.table.Table.TheVariants.{Subframe2}
 use Rattle.frames.specs.Frame.{Contents, time_in, bits_in}
-use Rattle.frames.specs.Read.{frame_answer, contents_in, no_frame, frame_by, frame_read, subframe2_alone, no_page_bits, page_by, subframe3_alone, alone_answer}
+use Rattle.frames.specs.Read.{frame_answer, contents_in, frame_read, subframe2_alone, subframe3_alone, alone_answer, frame_is}
 use Rattle.frames.specs.Due.{RefusesWith, FrameDue, AloneDue}
 use Rattle.frames.specs.Laws.Due.{refused_by}
 use Rattle.frames.specs.Laws.Reading.{alone_is}
 use Rattle.frames.proofs.Laws.Verdicts.{frame_due_refused, frame_verdict, alone_due_refused, alone_verdict}
+use Rattle.words.specs.Refusal.{Answer, answer_of, given_by, refused_at}
 
-answer_by_lem : (a : Answer) (c : Contents) (corrected : ℕ) → (frame_by a c corrected).answer ≡ a
-answer_by_lem Done c corrected = refl
-answer_by_lem (Refused r) c corrected = refl
+answer_by_lem : (a : Answer) (c : Contents) (corrected : ℕ) → answer_of (given_by a (frame_is c corrected)) ≡ a
+answer_by_lem (Ok tt) c corrected = refl
+answer_by_lem (Err r) c corrected = refl
 
 -- Reading a frame refuses with number n at p exactly where that is due.
-pub refused_exactly : (f : List ℕ) (n p : ℕ) → RefusesWith (frame_read f).answer n p ↔ FrameDue f n p
+pub refused_exactly : (f : List ℕ) (n p : ℕ) → RefusesWith (answer_of (frame_read f)) n p ↔ FrameDue f n p
 refused_exactly f n p =
-    refused_by (frame_read f).answer (FrameDue f)
-    (λ m q d. (answer_by_lem (frame_answer f) (contents_in f) (time_read (time_in f)).corrected ∙ (frame_due_refused f m q d).0, (frame_due_refused f m q d).1))
-    (rw (answer_by_lem (frame_answer f) (contents_in f) (time_read (time_in f)).corrected) (frame_verdict f)) n p
+    refused_by (answer_of (frame_read f)) (FrameDue f)
+    (λ m q d. (answer_by_lem (frame_answer f) (contents_in f) (corrected_read (time_read (time_in f))) ∙ (frame_due_refused f m q d).0, (frame_due_refused f m q d).1))
+    (rw (answer_by_lem (frame_answer f) (contents_in f) (corrected_read (time_read (time_in f)))) (frame_verdict f)) n p
 
 -- Beside that refusal stand zeros.
-pub refused_zeros : (f : List ℕ) (n p : ℕ) → FrameDue f n p → frame_read f ≡ no_frame n p
+pub refused_zeros : (f : List ℕ) (n p : ℕ) → FrameDue f n p → frame_read f ≡ refused_at n p
 refused_zeros f n p d =
-    ap (λ (a : Answer). frame_by a (contents_in f) (time_read (time_in f)).corrected) (frame_due_refused f n p d).0
+    ap (λ (a : Answer). given_by a (frame_is (contents_in f) (corrected_read (time_read (time_in f))))) (frame_due_refused f n p d).0
 
 -- Reading a subframe alone refuses with number n at p exactly where that is due, 1, 2, then only 4 5 6 or only 7 8 9.
 pub alone_refused_exactly : (s : Subframe) (f : List ℕ) (n p : ℕ) → RefusesWith (alone_answer s f) n p ↔ AloneDue s f n p
@@ -41,9 +39,9 @@ alone_refused_exactly s f n p =
     refused_by (alone_answer s f) (AloneDue s f)
     (λ m q d. (alone_is s f ∙ (alone_due_refused s f m q d).0, (alone_due_refused s f m q d).1)) (rw (alone_is s f) (alone_verdict s f)) n p
 
-pub subframe2_refused_zeros : (f : List ℕ) (n p : ℕ) → AloneDue Two f n p → subframe2_alone f ≡ no_fields n p
+pub subframe2_refused_zeros : (f : List ℕ) (n p : ℕ) → AloneDue Two f n p → subframe2_alone f ≡ refused_at n p
 subframe2_refused_zeros f n p d =
-    ap (λ (a : Answer). fields_by a (counts_in (fields_in Subframe2) (bits_in Two f))) (alone_due_refused Two f n p d).0
+    ap (λ (a : Answer). given_by a (counts_in (fields_in Subframe2) (bits_in Two f))) (alone_due_refused Two f n p d).0
 
-pub subframe3_refused_zeros : (f : List ℕ) (n p : ℕ) → AloneDue Three f n p → subframe3_alone f ≡ no_page_bits n p
-subframe3_refused_zeros f n p d = ap (λ (a : Answer). page_by a (bits_in Three f)) (alone_due_refused Three f n p d).0
+pub subframe3_refused_zeros : (f : List ℕ) (n p : ℕ) → AloneDue Three f n p → subframe3_alone f ≡ refused_at n p
+subframe3_refused_zeros f n p d = ap (λ (a : Answer). given_by a (bits_in Three f)) (alone_due_refused Three f n p d).0

@@ -2,9 +2,8 @@
 -- Assumes nothing.
 use Rattle.std.specs.Prelude.{Bool, ◌&&◌, List, ℕ, eqb, leb, ℤ, length}
 use Rattle.words.specs.Bits.{first_not_bit}
-use Rattle.words.specs.Refusal.{TIME, done_if, in_turn, judged, left_by}
+use Rattle.words.specs.Refusal.{TIME, done_if, in_turn, judged, left_by, Answer}
 use Rattle.words.specs.Time.{LAST_TOI}
-use Rattle.words.specs.declared.refusal.Answer.{Answer}
 use Rattle.fields.specs.Subframe2.{COUNTS_2, counts_answer}
 use Rattle.fields.specs.Pages.{PAGE_BITS, range_answer}
 use Rattle.frames.specs.Frame.{Contents, FRAME, frame_of}

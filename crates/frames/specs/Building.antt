@@ -3,10 +3,8 @@
 -- Assumes nothing.
 use Rattle.std.specs.Prelude.{◌≡◌, List, ◌↔◌, ℕ, length}
 use Rattle.std.proofs.Common.{ap}
-use Rattle.words.specs.Refusal.{left_by}
+use Rattle.words.specs.Refusal.{left_by, Answer, Done}
 use Rattle.words.specs.Unchanged.{Refuses, refused_by_answer}
-use Rattle.words.specs.declared.refusal.Answer.{Answer}
-use Rattle.words.specs.declared.refusal.Answer.TheVariants.{Done}
 use Rattle.frames.specs.Frame.{Contents, GoodContents, FRAME, IsFrame, frame_of}
 use Rattle.frames.specs.Build.{build_answer, build_bytes}
 use Rattle.frames.specs.Built.{built_right}

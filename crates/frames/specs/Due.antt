@@ -3,9 +3,8 @@
 use Rattle.std.specs.Prelude.{◌≡◌, List, ◌≢◌, ℕ, ◌%◌, ◌≤◌, ◌<◌, length, get_or, drop}
 use Rattle.words.specs.Bits.{IsBits}
 use Rattle.words.specs.Crc.{Right}
-use Rattle.words.specs.Refusal.{LENGTH, NOT_A_BIT, TIME, FIELD_2, FIELD_3, number_of, place_of}
+use Rattle.words.specs.Refusal.{LENGTH, NOT_A_BIT, TIME, FIELD_2, FIELD_3, number_of, place_of, Answer}
 use Rattle.words.specs.Time.{LAST_TOI, IsTime}
-use Rattle.words.specs.declared.refusal.Answer.{Answer}
 use Rattle.tables.specs.Matrix.{Matrix, matrix_of}
 use Rattle.tables.specs.declared.matrix.Subframe.{Subframe}
 use Rattle.tables.specs.declared.matrix.Subframe.TheVariants.{Two, Three}

@@ -2,18 +2,17 @@
 -- Assumes nothing.
 use Rattle.std.specs.Prelude.{◌≡◌, List, ◌↔◌, ℕ}
 use Rattle.std.proofs.Common.{ap}
-use Rattle.words.specs.Time.{no_time}
-use Rattle.words.specs.declared.time.Time.{Time}
 use Rattle.frames.specs.Read.{time_alone}
 use Rattle.frames.specs.Due.{RefusesWith, TimeDue}
 use Rattle.frames.specs.Laws.Due.{refused_by}
 use Rattle.frames.specs.Laws.Verdicts.{time_due_refused, time_verdict}
+use Rattle.words.specs.Refusal.{answer_of, refused_at}
 
 -- Reading the time alone refuses with number n at p exactly where that is due, 1, 2 or 3.
-pub time_refused_exactly : (f : List ℕ) (n p : ℕ) → RefusesWith (time_alone f).answer n p ↔ TimeDue f n p
+pub time_refused_exactly : (f : List ℕ) (n p : ℕ) → RefusesWith (answer_of (time_alone f)) n p ↔ TimeDue f n p
 time_refused_exactly f n p =
-    refused_by (time_alone f).answer (TimeDue f)
-    (λ m q d. (ap (λ (t : Time). t.answer) (time_due_refused f m q d).0, (time_due_refused f m q d).1)) (time_verdict f) n p
+    refused_by (answer_of (time_alone f)) (TimeDue f)
+    (λ m q d. (ap answer_of (time_due_refused f m q d).0, (time_due_refused f m q d).1)) (time_verdict f) n p
 
-pub time_refused_zeros : (f : List ℕ) (n p : ℕ) → TimeDue f n p → time_alone f ≡ no_time n p
+pub time_refused_zeros : (f : List ℕ) (n p : ℕ) → TimeDue f n p → time_alone f ≡ refused_at n p
 time_refused_zeros f n p d = (time_due_refused f n p d).0

@@ -1,6 +1,7 @@
 // The block of a subframe: its bits, their check bits, its parity.
 ghost use Rattle.std.specs.Prelude.{◌≡◌, ◌+◌, length, take};
 ghost use Rattle.words.specs.Bits.{IsBits};
+ghost use Rattle.words.specs.Refusal.{number};
 ghost use Rattle.tables.specs.Matrix.{matrix_of};
 ghost use Rattle.frames.specs.Frame.{bits_before, subframe_of};
 ghost use Rattle.frames.specs.Read.{check_number};
@@ -10,32 +11,28 @@ use parity::equations::first_unmet;
 use parity::fill::fill_parity;
 use tables::matrix::{Subframe, equations};
 use words::crc::{is_right, put_check};
-use words::refusal::{Answer, CHECK_2, CHECK_3, refuse};
+use words::refusal::{Refusal, Rule};
 
-// The number on refusal for check bits that differ.
-fn check_number(subframe: Subframe) -> u8
-    ensures { result ≡ check_number subframe }
+// The rule for check bits that differ.
+fn check_rule(subframe: Subframe) -> Rule
+    ensures { number result ≡ check_number subframe }
 {
     match subframe {
-        Subframe::Two => CHECK_2,
-        Subframe::Three => CHECK_3,
+        Subframe::Two => Rule::Check2,
+        Subframe::Three => Rule::Check3,
     }
 }
 
 // Whether a block meets every equation and has right check bits. Refused 4 or 7 at the first equation that isn't met, then 5 or 8 at 0.
-pub(crate) fn judge_block(subframe: Subframe, block: &[u8]) -> Answer
+pub(crate) fn judge_block(subframe: Subframe, block: &[u8]) -> Result<(), Refusal>
     ensures { result ≡ block_answer subframe block.now }
 {
-    match first_unmet(subframe, block) {
-        Answer::Refused(r) => refuse(r.number, r.place),
-        Answer::Done => {
-            let n = equations(subframe);
-            if is_right(&block[..n]) {
-                return Answer::Done;
-            }
-            refuse(check_number(subframe), 0)
-        }
+    first_unmet(subframe, block)?;
+    let n = equations(subframe);
+    if is_right(&block[..n]) {
+        return Ok(());
     }
+    Err(check_rule(subframe).at(0))
 }
 
 // Puts the check bits and the parity behind the bits of a subframe.
@@ -45,6 +42,6 @@ pub(crate) fn complete(subframe: Subframe, block: &mut [u8])
     ensures { block.new ≡ subframe_of subframe (take (bits_before subframe) block.old) }
 {
     let n = equations(subframe);
-    put_check(&mut block[..n]);
-    fill_parity(subframe, block);
+    put_check(&mut block[..n]).unwrap();
+    fill_parity(subframe, block).unwrap();
 }

@@ -16,8 +16,8 @@ use fields::pages::judge_page;
 use fields::subframe2::write_fields;
 use parity::order::interleave;
 use tables::matrix::Subframe;
-use words::bits::{copy, first_not_bit};
-use words::refusal::{Answer, LENGTH, NOT_A_BIT, TIME, refuse};
+use words::bits::first_not_bit;
+use words::refusal::{Refusal, Rule};
 use words::time::{LAST_TOI, write_time};
 
 // The counts, the page and the frame are as many as they must be.
@@ -38,7 +38,7 @@ fn write_page_block(page: &[u8], three: &mut [u8])
     requires { (length page.now ≡ PAGE_BITS) × IsBits page.now × (length three.old ≡ SYMBOLS_3) }
     ensures { three.new ≡ subframe_of Three page.now }
 {
-    copy(page, &mut three[..250]);
+    three[..250].copy_from_slice(page);
     complete(Subframe::Three, three);
 }
 
@@ -48,8 +48,8 @@ fn write_symbols(toi: u16, two: &[u8], three: &[u8], frame: &mut [u8])
         × (length three.now ≡ SYMBOLS_3) × IsBits three.now × (length frame.old ≡ FRAME) }
     ensures { frame.new ≡ time_word toi ++ interleaved (two.now ++ three.now) }
 {
-    write_time(&mut frame[..52], toi);
-    interleave(two, three, &mut frame[52..]);
+    write_time(&mut frame[..52], toi).unwrap();
+    interleave(two, three, &mut frame[52..]).unwrap();
 }
 
 // The frame of a time, of the bits of subframe 2, which stand in front of its block, and of the page.
@@ -65,40 +65,40 @@ fn write_frame(toi: u16, two: &mut [u8], page: &[u8], frame: &mut [u8])
 }
 
 // Judges the counts and the page, and where nothing is refused writes the frame; `two` is room for the block of subframe 2.
-fn build_in(toi: u16, counts: &[i64], page: &[u8], two: &mut [u8], frame: &mut [u8]) -> Answer
+fn build_in(
+    toi: u16,
+    counts: &[i64],
+    page: &[u8],
+    two: &mut [u8],
+    frame: &mut [u8],
+) -> Result<(), Refusal>
     requires { (toi ≤ LAST_TOI) × (length counts.now ≡ COUNTS_2) × (length page.now ≡ PAGE_BITS) × IsBits page.now
         × (length two.old ≡ SYMBOLS_2) × (length frame.old ≡ FRAME) }
     ensures { (result ≡ in_turn (counts_answer counts.now) (range_answer page.now))
         × (frame.new ≡ left_by (in_turn (counts_answer counts.now) (range_answer page.now))
         (symbols_from toi (bits2 counts.now) page.now) frame.old) }
 {
-    match write_fields(counts, &mut two[..576]) {
-        Answer::Refused(r) => refuse(r.number, r.place),
-        Answer::Done => match judge_page(page) {
-            Answer::Refused(r) => refuse(r.number, r.place),
-            Answer::Done => {
-                write_frame(toi, two, page, frame);
-                Answer::Done
-            }
-        },
-    }
+    write_fields(counts, &mut two[..576])?;
+    judge_page(page)?;
+    write_frame(toi, two, page, frame);
+    Ok(())
 }
 
 // The frame of a time, 33 counts and 250 page bits, into 1800 bytes. Refused 1 at 0 for other lengths, 2 at the first page byte that is
 // no bit, 3 at 0 for a time over 399, 6 at the first bit of the first count out of range, 9 at that of the first field of page 1 out of range.
-pub fn build(toi: u16, counts: &[i64], page: &[u8], frame: &mut [u8]) -> Answer
+pub fn build(toi: u16, counts: &[i64], page: &[u8], frame: &mut [u8]) -> Result<(), Refusal>
     ensures { (result ≡ build_answer (contents_of toi counts.now page.now) frame.old)
         × (frame.new ≡ build_bytes (contents_of toi counts.now page.now) frame.old) }
 {
     if !has_sizes(counts.len(), page.len(), frame.len()) {
-        return refuse(LENGTH, 0);
+        return Err(Rule::Length.at(0));
     }
     let bad = first_not_bit(page);
     if bad != page.len() {
-        return refuse(NOT_A_BIT, bad);
+        return Err(Rule::NotABit.at(bad));
     }
     if LAST_TOI < toi {
-        return refuse(TIME, 0);
+        return Err(Rule::Time.at(0));
     }
     let mut two = [0u8; 1200];
     build_in(toi, counts, page, &mut two, frame)

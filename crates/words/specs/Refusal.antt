@@ -117,8 +117,8 @@ given_by (Err r) x = Err r
 abbrev pub done_if : Bool → ℕ → ℕ → Answer
 done_if test number place = cond test Done (refused_at number place)
 
--- judged in turn: the first refusal of the two, done where neither refuses
-abbrev pub in_turn : Answer → Answer → Answer
+-- judged in turn: the first refusal of the two, and where neither refuses what the second gives
+abbrev pub in_turn : {A : Type 0} → Answer → Result A Refusal → Result A Refusal
 in_turn (Ok tt) next = next
 in_turn (Err r) next = Err r
 

@@ -3,10 +3,8 @@
 use Rattle.std.specs.Prelude.{◌≡◌, Bool, List, ◌⊎◌, ◌≢◌, ℕ}
 use Rattle.std.proofs.Common.{sym, ap, ap₂, ◌∙◌, inl, inr, arith, eq-eqb, ne_eqb}
 use Rattle.words.specs.Crc.{remainder_of, Right}
-use Rattle.words.specs.Refusal.{refused_at, done_if, in_turn}
+use Rattle.words.specs.Refusal.{refused_at, done_if, in_turn, Answer, Done}
 use Rattle.words.specs.Laws.Turns.{not_done}
-use Rattle.words.specs.declared.refusal.Answer.{Answer}
-use Rattle.words.specs.declared.refusal.Answer.TheVariants.{Done}
 use Rattle.tables.specs.Matrix.{matrix_of}
 use Rattle.tables.specs.Laws.Cases.{same_or_not}
 use Rattle.tables.specs.declared.matrix.Subframe.{Subframe}

@@ -3,10 +3,8 @@
 use Rattle.std.specs.Prelude.{◌≡◌, List, ◌≢◌, ℕ}
 use Rattle.std.proofs.Math.Path.{ap, ap₂}
 use Rattle.std.proofs.Common.{◌∙◌, arith}
-use Rattle.words.specs.Refusal.{TIME, refused_at, in_turn}
+use Rattle.words.specs.Refusal.{TIME, refused_at, in_turn, Answer, Done, answer_of}
 use Rattle.words.specs.Time.{time_read}
-use Rattle.words.specs.declared.refusal.Answer.{Answer}
-use Rattle.words.specs.declared.refusal.Answer.TheVariants.{Done}
 use Rattle.tables.specs.declared.matrix.Subframe.{Subframe}
 use Rattle.tables.specs.declared.matrix.Subframe.TheVariants.{Two, Three}
 use Rattle.frames.specs.Frame.{time_in, subframe_in}
@@ -46,9 +44,9 @@ module _ (f : List ℕ) where
   rest : Answer
   rest = in_turn (subframe_answer Two (subframe_in Two f)) (subframe_answer Three (subframe_in Three f))
 
-  whole : AreSymbols f → frame_answer f ≡ in_turn (time_read (time_in f)).answer rest
+  whole : AreSymbols f → frame_answer f ≡ in_turn (answer_of (time_read (time_in f))) rest
   unfolding rest
-  whole are = lent_on f are.long are.bits (in_turn (time_read (time_in f)).answer rest)
+  whole are = lent_on f are.long are.bits (in_turn (answer_of (time_read (time_in f))) rest)
 
   timed : AreSymbols f → HasTime f → frame_answer f ≡ rest
   timed are h = whole are ∙ ap (λ (a : Answer). in_turn a rest) (time_answer_lem f are h)
@@ -56,7 +54,7 @@ module _ (f : List ℕ) where
   pub frame_due_refused : (n p : ℕ) → FrameDue f n p → (frame_answer f ≡ refused_at n p) × (n ≢ 0)
   unfolding rest
   frame_due_refused n p (Rules.lent m q d) =
-      (lent_due_refused f m q d (in_turn (time_read (time_in f)).answer rest), lent_some f m q d)
+      (lent_due_refused f m q d (in_turn (answer_of (time_read (time_in f))) rest), lent_some f m q d)
   frame_due_refused n p (Rules.time are far) =
       (whole are ∙ ap (λ (a : Answer). in_turn a rest) (no_time_answer f are far), λ e. omega arith)
   frame_due_refused n p (Rules.two m q are h d) = (

@@ -11,34 +11,30 @@ use lib.IntN.{ℤ}
 use lib.ListN.{length, take, drop, length-append, length-drop, drop_of_length-le}
 use lib.Seq.{take_at, length-take-le}
 use borrow.Author.Tests.{eqb-true, eq-eqb, ne_eqb, le-leb, lt-leb}
-use Rattle.words.specs.Bits.{IsBits, first_not_bit, copy_bytes}
-use Rattle.words.specs.Time.{time_word, time_bytes}
-use Rattle.words.specs.Refusal.{LENGTH, NOT_A_BIT, TIME, FIELD_2, refused_at, in_turn, left_by}
-use Rattle.words.specs.declared.refusal.Answer.{Answer}
-use Rattle.words.specs.declared.refusal.Answer.TheVariants.{Done, Refused}
+use Rattle.words.specs.Bits.{IsBits, first_not_bit}
+use Rattle.words.specs.Time.{time_word, time_answer, time_bytes}
+use Rattle.words.specs.Refusal.{LENGTH, NOT_A_BIT, TIME, FIELD_2, refused_at, in_turn, left_by, Answer, Done}
 use Rattle.words.specs.declared.refusal.Refusal.{Refusal}
 use Rattle.words.specs.Laws.Turns.{test_done}
 use Rattle.words.specs.Laws.Words.{word_length}
 use Rattle.parity.specs.InOrder.{interleave_done}
-use Rattle.parity.specs.Order.{interleaved, interleave_bytes}
+use Rattle.parity.specs.Order.{interleaved, interleave_answer, interleave_bytes}
 use Rattle.fields.specs.Table.{fields_in}
 use Rattle.fields.specs.Counts.{first_out}
 use Rattle.fields.specs.FieldsBack.{length_bits2}
 use Rattle.fields.specs.Subframe2.{bits2, counts_answer, fields_written, fields_bytes}
-use Rattle.fields.specs.Pages.{range_answer}
+use Rattle.fields.specs.Pages.{range_answer, page_answer}
+use Rattle.fields.specs.Laws.Answers.{judged_right}
 use Rattle.fields.specs.Laws.Table.{count_subframe2}
 use Rattle.fields.specs.declared.table.Table.TheVariants.{Subframe2}
 use Rattle.frames.specs.Build.{contents_of, build_lengths, build_answer, build_bytes}
 use Rattle.frames.specs.Frame.{Contents, frame_of}
 use Rattle.frames.specs.Laws.Steps.{symbols_from}
+use Rattle.std.specs.Prelude.{Err}
 
 -- ---- the page in front of the block of subframe 3
 
-module _ (page three d : List ℕ) (long : length page ≡ 250) (wide : length three ≡ 548) (copied : d ≡ copy_bytes page (take 250 three)) where
-  copied_is : d ≡ page
-  copied_is =
-      copied ∙ rw (eq-eqb (length page) (length (take 250 three)) (long ∙ sym (length-take-le 250 three (omega arith)))) refl
-
+module _ (page three d : List ℕ) (long : length page ≡ 250) (wide : length three ≡ 548) (copied_is : d ≡ page) where
   pub page_in_front : take 250 (d ++ drop 250 three) ≡ page
   page_in_front = take_at d (drop 250 three) 250 (ap length copied_is ∙ long) ∙ copied_is
 
@@ -56,6 +52,9 @@ module _
   word_put : t ≡ time_word toi
   word_put = timed ∙ rw (eq-eqb (length (take 52 f)) 52 (length-take-le 52 f (omega arith)), le-leb toi 399 used) refl
 
+  pub word_fits : time_answer (take 52 f) toi ≡ Done
+  word_fits = rw (eq-eqb (length (take 52 f)) 52 (length-take-le 52 f (omega arith)), le-leb toi 399 used) refl
+
   word_52 : length t ≡ 52
   word_52 = ap length word_put ∙ word_length toi
 
@@ -66,16 +65,23 @@ module _
   with_word_1800 : length with_word ≡ 1800
   with_word_1800 = length-append t (drop 52 f) ∙ omega (arith, length-drop 52 f, word_52)
 
+  behind_long : length (take (length with_word - 52) (drop 52 with_word)) ≡ 1748
+  behind_long =
+      length-take-le (length with_word - 52) (drop 52 with_word) (omega (arith, length-drop 52 with_word)) ∙ omega (arith, with_word_1800)
+
+  pub symbols_fit : length b2 ≡ 1200 → IsBits b2 → length b3 ≡ 548 → IsBits b3
+      → interleave_answer b2 b3 (take (length with_word - 52) (drop 52 with_word)) ≡ Done
+  symbols_fit l2 are2 l3 are3 =
+      (interleave_done b2 b3 (take (length with_word - 52) (drop 52 with_word)) (record { two = l2; three = l3; both = behind_long }) are2 are3).0
+
   pub symbols_put : length b2 ≡ 1200 → IsBits b2 → length b3 ≡ 548 → IsBits b3
       → o ≡ interleave_bytes b2 b3 (take (length with_word - 52) (drop 52 with_word))
       → take 52 with_word ++ (o ++ drop (length with_word - 52) (drop 52 with_word)) ≡ time_word toi ++ interleaved (b2 ++ b3)
   symbols_put l2 are2 l3 are3 e =
       let behind = drop 52 with_word in
       let count : length behind ≡ 1748 = length-drop 52 with_word ∙ omega (arith, with_word_1800) in
-      let part : length (take (length with_word - 52) behind) ≡ 1748 =
-      length-take-le (length with_word - 52) behind (omega (arith, with_word_1800)) ∙ omega (arith, with_word_1800) in
       let ordered : o ≡ interleaved (b2 ++ b3) =
-      e ∙ (interleave_done b2 b3 (take (length with_word - 52) behind) (record { two = l2; three = l3; both = part }) are2 are3).1 in
+      e ∙ (interleave_done b2 b3 (take (length with_word - 52) behind) (record { two = l2; three = l3; both = behind_long }) are2 are3).1 in
       rw (
         drop_of_length-le behind {i = length with_word - 52} (omega (arith, with_word_1800)),
         append-nil o,
@@ -99,13 +105,17 @@ module _ (zs : List ℤ) (two : List ℕ) (many : length zs ≡ 33) (wide : leng
       e ∙ rw (eq-eqb (length zs) 33 many, eq-eqb (length (take 576 two)) 576 part_576, test_done (eqb out 0) FIELD_2 out done) refl in
       take_at d (drop 576 two) 576 (ap length put ∙ length_bits2 zs (many ∙ sym count_subframe2)) ∙ put
 
+-- 250 page bits are judged by their fields alone
+pub page_judged : (l : List ℕ) → length l ≡ 250 → IsBits l → page_answer l ≡ range_answer l
+page_judged l long bits = judged_right 250 (length l) l (range_answer l) long bits
+
 -- ---- two judgements in turn: what is answered, and what is left in the frame
 
 module _ (a b x : Answer) (new out f : List ℕ) where
-  pub first_refused : (r : Refusal) → a ≡ Refused r → x ≡ Refused r → out ≡ f → (x ≡ in_turn a b) × (out ≡ left_by (in_turn a b) new f)
+  pub first_refused : (r : Refusal) → a ≡ Err r → x ≡ Err r → out ≡ f → (x ≡ in_turn a b) × (out ≡ left_by (in_turn a b) new f)
   first_refused r e g same = rw e (g, same)
 
-  pub second_refused : (r : Refusal) → a ≡ Done → b ≡ Refused r → x ≡ Refused r → out ≡ f
+  pub second_refused : (r : Refusal) → a ≡ Done → b ≡ Err r → x ≡ Err r → out ≡ f
       → (x ≡ in_turn a b) × (out ≡ left_by (in_turn a b) new f)
   second_refused r e g h same = rw (e, g) (h, same)
 

@@ -7,11 +7,9 @@ use Rattle.std.proofs.Math.Bool.{and-eq-true_iff}
 use native.Mathlib.Omega.{arith}
 use borrow.Author.Tests.{eq-eqb, ne_eqb, eqb-true, le-leb, lt-leb, leb-true}
 use Rattle.words.specs.Bits.{first_not_bit}
-use Rattle.words.specs.Refusal.{LENGTH, NOT_A_BIT, TIME, FIELD_2, FIELD_3, refused_at, done_if, in_turn}
+use Rattle.words.specs.Refusal.{LENGTH, NOT_A_BIT, TIME, FIELD_2, FIELD_3, refused_at, done_if, in_turn, Answer, Done}
 use Rattle.words.specs.Laws.Digits.{bits_none, none_not_bit, not_bit_le}
 use Rattle.words.specs.Laws.Turns.{both_done, test_done, judged_on, judged_done}
-use Rattle.words.specs.declared.refusal.Answer.{Answer}
-use Rattle.words.specs.declared.refusal.Answer.TheVariants.{Done}
 use Rattle.tables.specs.Laws.Cases.{same_or_not, before_or_not}
 use Rattle.tables.specs.declared.matrix.Subframe.TheVariants.{Three}
 use Rattle.fields.specs.Table.{fields_in}

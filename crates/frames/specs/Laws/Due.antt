@@ -3,10 +3,8 @@
 use Rattle.std.specs.Prelude.{◌≡◌, refl, Bool, cond, List, [], ◌∷◌, ◌⊎◌, ◌≢◌, ◌↔◌, ℕ, zero, suc, ◌≤◌, ◌<◌, eqb, ltb, length, get_or, drop}
 use Rattle.std.proofs.Common.{sym, ap, ◌∙◌, inl, inr, arith, eq-eqb, ne_eqb, lt-ltb, le-ltb}
 use Rattle.words.specs.Bits.{first_not_bit}
-use Rattle.words.specs.Refusal.{LENGTH, NOT_A_BIT, FIELD_2, FIELD_3, refused_at, done_if, number_of, place_of}
+use Rattle.words.specs.Refusal.{LENGTH, NOT_A_BIT, FIELD_2, FIELD_3, refused_at, done_if, number_of, place_of, Answer, Done}
 use Rattle.words.specs.Laws.Digits.{none_not_bit, not_bit_le}
-use Rattle.words.specs.declared.refusal.Answer.{Answer}
-use Rattle.words.specs.declared.refusal.Answer.TheVariants.{Done}
 use Rattle.tables.specs.Matrix.{Matrix}
 use Rattle.tables.specs.Laws.Cases.{same_or_not, before_or_not}
 use Rattle.tables.specs.declared.matrix.Subframe.{Subframe}

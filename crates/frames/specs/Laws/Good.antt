@@ -3,8 +3,7 @@
 use Rattle.std.specs.Prelude.{◌≡◌, Bool, List, [], ◌∷◌, ◌++◌, ◌⊎◌, ◌≢◌, ℕ, eqb, ℤ, pos, length, take, drop}
 use Rattle.std.proofs.Common.{sym, ap, ◌∙◌, append-nil, inl, inr, arith, take_all, take_at, ne_eqb, eqb-true}
 use Rattle.words.specs.Bits.{IsBits}
-use Rattle.words.specs.Refusal.{FIELD_2, FIELD_3, done_if, number_of}
-use Rattle.words.specs.declared.refusal.Answer.TheVariants.{Done}
+use Rattle.words.specs.Refusal.{FIELD_2, FIELD_3, done_if, number_of, Done}
 use Rattle.tables.specs.Laws.Cases.{same_or_not}
 use Rattle.tables.specs.declared.matrix.Subframe.{Subframe}
 use Rattle.tables.specs.declared.matrix.Subframe.TheVariants.{Two, Three}

@@ -1,18 +1,18 @@
 -- What is judged of a frame and of its subframes, and what a frame has that is done.
 -- Assumes nothing.
-use Rattle.std.specs.Prelude.{◌≡◌, refl, Bool, ℕ, ◌+◌, eqb, ℤ, length, take}
+use Rattle.std.specs.Prelude.{◌≡◌, refl, Bool, ℕ, ◌+◌, eqb, length, take, Err, Ok}
 use Rattle.std.proofs.Math.Path.{ap, ap₂}
-use Rattle.std.proofs.Common.{arith, length-take-le, eq-eqb, eqb-true}
+use Rattle.std.proofs.Common.{arith, length-take-le, eq-eqb, eqb-true, Result}
 use mathlib.Core.List.{List}
 use Rattle.words.specs.Bits.{IsBits, first_not_bit}
 use Rattle.words.specs.Crc.{remainder_of, Right}
 use Rattle.words.specs.Reading.{read_exactly}
-use Rattle.words.specs.Refusal.{FIELD_2, FIELD_3, done_if, in_turn, number_of}
-use Rattle.words.specs.Time.{IsTime, time_is, time_read}
+use Rattle.words.specs.Refusal.{FIELD_2, FIELD_3, done_if, in_turn, number_of, Answer, Done, answer_of}
+use Rattle.words.specs.declared.time.Time.{Time}
+use Rattle.words.specs.declared.refusal.Refusal.{Refusal}
+use Rattle.words.specs.Time.{IsTime, time_is, time_read, toi_read, corrected_read}
 use Rattle.words.specs.Laws.Digits.{bits_none, none_not_bit, bits_take}
-use Rattle.words.specs.Laws.Turns.{both_done, test_done, judged_on, judged_done, Numbered, test_numbered, turn_numbered}
-use Rattle.words.specs.declared.refusal.Answer.{Answer}
-use Rattle.words.specs.declared.refusal.Answer.TheVariants.{Done, Refused}
+use Rattle.words.specs.Laws.Turns.{both_done, test_done, judged_on, judged_done, Numbered, test_numbered, turn_numbered, given_answer, not_done}
 use Rattle.tables.specs.Matrix.{matrix_of}
 use Rattle.tables.specs.declared.matrix.Subframe.{Subframe}
 use Rattle.tables.specs.declared.matrix.Subframe.TheVariants.{Two, Three}
@@ -20,26 +20,18 @@ use Rattle.parity.specs.Equations.{data_of, Meets, met_answer}
 use Rattle.parity.specs.Judged.{done_met, met_done}
 use Rattle.fields.specs.Table.{fields_in}
 use Rattle.fields.specs.Counts.{counts_in}
-use Rattle.fields.specs.Subframe2.{first_out2, fields_by}
+use Rattle.fields.specs.Subframe2.{first_out2}
 use Rattle.fields.specs.declared.table.Table.TheVariants.{Subframe2}
 use Rattle.frames.specs.Frame.{FRAME, TIME_SYMBOLS, time_in, subframe_in, bits_before, bits_in}
-use Rattle.frames.specs.Read.{check_number, check_bits_answer, ranges_answer, subframe_answer, frame_judged, page_by, alone_answer}
+use Rattle.frames.specs.Read.{check_number, check_bits_answer, ranges_answer, subframe_answer, frame_judged, alone_answer}
 use Rattle.frames.specs.Laws.Good.{first_out3}
 
 -- ---- a subframe
 
 -- what is answered of a subframe that is read alone
 pub alone_is : (s : Subframe) (f : List ℕ) → alone_answer s f ≡ frame_judged f (subframe_answer s (subframe_in s f))
-alone_is Two f = by_fields (frame_judged f (subframe_answer Two (subframe_in Two f))) (counts_in (fields_in Subframe2) (bits_in Two f))
-  where
-    by_fields : (a : Answer) (zs : List ℤ) → (fields_by a zs).answer ≡ a
-    by_fields Done zs = refl
-    by_fields (Refused r) zs = refl
-alone_is Three f = by_page (frame_judged f (subframe_answer Three (subframe_in Three f))) (bits_in Three f)
-  where
-    by_page : (a : Answer) (page : List ℕ) → (page_by a page).answer ≡ a
-    by_page Done page = refl
-    by_page (Refused r) page = refl
+alone_is Two f = given_answer (frame_judged f (subframe_answer Two (subframe_in Two f))) (counts_in (fields_in Subframe2) (bits_in Two f))
+alone_is Three f = given_answer (frame_judged f (subframe_answer Three (subframe_in Three f))) (bits_in Three f)
 
 -- a subframe whose answer has no number is done
 pub subframe_numbered : (s : Subframe) (y : List ℕ) → Numbered (subframe_answer s y)
@@ -106,11 +98,13 @@ time_is_lem f toi places long bits h =
     (read_exactly (time_in f) toi places).1 (time_length f long, bits_take TIME_SYMBOLS f bits, h)
 
 -- a time that is read is one within nine
-pub time_found : (f : List ℕ) → (time_read (time_in f)).answer ≡ Done
-    → IsTime (time_in f) (time_read (time_in f)).toi (time_read (time_in f)).corrected
-time_found f e =
-    let r = time_read (time_in f) in
-    ((read_exactly (time_in f) r.toi r.corrected).0 (ap (λ (a : Answer). record { answer = a; toi = r.toi; corrected = r.corrected }) e)).2
+pub time_found : (f : List ℕ) → answer_of (time_read (time_in f)) ≡ Done
+    → IsTime (time_in f) (toi_read (time_read (time_in f))) (corrected_read (time_read (time_in f)))
+time_found f e = go (time_read (time_in f)) refl e
+  where
+    go : (r : Result Time Refusal) → time_read (time_in f) ≡ r → answer_of r ≡ Done → IsTime (time_in f) (toi_read r) (corrected_read r)
+    go (Ok t) q e = ((read_exactly (time_in f) t.toi t.corrected).0 q).2
+    go (Err r) q e = absurd (not_done r.number r.place e)
 
 -- ---- a whole frame
 
@@ -118,5 +112,5 @@ time_found f e =
 pub record Parts (f : List ℕ) : Type 0 where
   pub long : length f ≡ FRAME
   pub bits : IsBits f
-  pub time : (time_read (time_in f)).answer ≡ Done
+  pub time : answer_of (time_read (time_in f)) ≡ Done
   pub done : (s : Subframe) → IsDone s (subframe_in s f)

@@ -12,8 +12,6 @@ use Rattle.words.specs.Sums.{add2, sums, differing, weight, Within24}
 use Rattle.words.specs.Time.{time_is, time_read}
 use Rattle.words.specs.Laws.Digits.{bits_take}
 use Rattle.words.specs.Laws.Sums.{length_sums, sums_at, sums_are, differing_comm, differing_none, turned_differ}
-use Rattle.words.specs.declared.refusal.Answer.{Answer}
-use Rattle.words.specs.declared.refusal.Answer.TheVariants.{Done}
 use Rattle.tables.specs.Matrix.{matrix_of}
 use Rattle.tables.specs.Published.{at_most_600}
 use Rattle.tables.specs.declared.matrix.Subframe.{Subframe}
@@ -22,10 +20,11 @@ use Rattle.parity.specs.Equations.{data_of}
 use Rattle.parity.specs.InOrder.{deinterleaved_linear}
 use Rattle.parity.specs.Order.{SYMBOLS_2, deinterleaved, first_block, second_block}
 use Rattle.frames.specs.Frame.{Contents, FRAME, TIME_SYMBOLS, time_in, ordered_in, subframe_in, data_in, bits_before, subframe_of, bits_from, frame_of}
-use Rattle.frames.specs.Read.{frame_judged, time_alone, time_by}
+use Rattle.frames.specs.Read.{frame_judged, time_alone}
 use Rattle.frames.specs.Turned.{FrameFlags, turned, SomeTurned, NamedDamage, none, two, odd, near}
 use Rattle.frames.specs.Laws.Reading.{IsDone, lent_on}
 use Rattle.frames.specs.Laws.Blocks.{HaveBits, subframe_length, subframe_bits, data_length, bits_in_data, made_bits, made_right, only_made, time_of, frame_length, frame_bits, subframe_of_frame}
+use Rattle.words.specs.Refusal.{Answer, Done, in_turn}
 
 -- ---- parts of sums
 
@@ -101,7 +100,7 @@ module _ (c : Contents) (t : List ℕ) (have : HaveBits c) (flags : FrameFlags t
 
   pub time_read_lem : c.toi ≤ 399 → weight (time_in t) ≤ 9 → time_alone (turned (frame_of c) t) ≡ time_is c.toi (weight (time_in t))
   time_read_lem used few =
-      ap (λ (a : Answer). time_by a (time_read (time_in (turned (frame_of c) t)))) (turned_judged Done)
+      ap (λ (a : Answer). in_turn a (time_read (time_in (turned (frame_of c) t)))) (turned_judged Done)
       ∙ ap time_read (take_sums TIME_SYMBOLS (frame_of c) t ∙ ap (λ (w : List ℕ). sums w (time_in t)) (time_of c))
       ∙ time_borne c.toi (time_in t) used
       (length-take-le TIME_SYMBOLS t (omega (arith, flags.long))) (bits_take TIME_SYMBOLS t flags.bits) few

@@ -36,9 +36,13 @@ pub given_answer : {A : Type 0} (a : Answer) (x : A) → answer_of (given_by a x
 given_answer (Ok tt) x = refl
 given_answer (Err r) x = refl
 
+-- what is given is one thing
+pub ok_same : {A : Type 0} (x y : A) → ◌≡◌ {A = Result A Refusal} (Ok x) (Ok y) → x ≡ y
+ok_same x y e = ap (λ (r : Result _ Refusal). result_unwrap_or r x) e
+
 -- and where something is given, the answer is done, and that is it
 pub given_ok : {A : Type 0} (a : Answer) (x y : A) → given_by a x ≡ Ok y → (a ≡ Done) × (y ≡ x)
-given_ok (Ok tt) x y e = (refl, sym (ap (λ (r : Result _ Refusal). result_unwrap_or r x) e))
+given_ok (Ok tt) x y e = (refl, sym (ok_same x y e))
 given_ok (Err r) x y e = absurd (not_done r.number r.place (ap answer_of e))
 
 -- lent bytes of the right length that are bits are judged by what else is answered

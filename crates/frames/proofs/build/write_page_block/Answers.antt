@@ -8,20 +8,23 @@ use Rattle.frames.specs.Frame.{subframe_of}
 use Rattle.frames.proofs.build.Laws.{page_in_front, still_548}
 use Rattle.frames.proofs.build.write_page_block.Goals as goal
 
-pub slice_bounds-copy-end-2 : goal.slice_bounds-copy-end-2
-slice_bounds-copy-end-2 c = let start = c in sym (length-take-le 250 start.args.three.now (omega (arith, start.requires.2)))
+pub slice_bounds-copy_from_slice-end-2 : goal.slice_bounds-copy_from_slice-end-2
+slice_bounds-copy_from_slice-end-2 c = let start = c in sym (length-take-le 250 start.args.three.now (omega (arith, start.requires.2)))
+
+pub copy_from_slice-requires : goal.copy_from_slice-requires
+copy_from_slice-requires c = length-take-le 250 c.args.three.now (omega (arith, c.requires.2)) ∙ sym c.requires.0
 
 pub complete-requires : goal.complete-requires
 complete-requires c =
     let page = c.args.page.now in
     let three = c.args.three.now in
-    let d = c.copy.new.into in (
-      still_548 page three d c.requires.0 c.requires.2 c.copy.ensures.1,
-      subst IsBits (sym (page_in_front page three d c.requires.0 c.requires.2 c.copy.ensures.1)) c.requires.1,
+    let d = c.copy_from_slice.new.self in (
+      still_548 page three d c.requires.0 c.requires.2 c.copy_from_slice.ensures.after,
+      subst IsBits (sym (page_in_front page three d c.requires.0 c.requires.2 c.copy_from_slice.ensures.after)) c.requires.1,
     )
 
 pub returns : goal.returns
 returns c =
     c.complete.ensures
     ∙ ap (subframe_of Three)
-    (page_in_front c.args.page.now c.args.three.now c.copy.new.into c.requires.0 c.requires.2 c.copy.ensures.1)
+    (page_in_front c.args.page.now c.args.three.now c.copy_from_slice.new.self c.requires.0 c.requires.2 c.copy_from_slice.ensures.after)

@@ -1,23 +1,14 @@
 -- `frames::read::read_subframe2` meets its contract. Assumes nothing.
 use mathlib.Core.Path.{sym, ◌∙◌}
-use Rattle.words.specs.declared.refusal.Answer.TheVariants.{Done}
+use Rattle.words.specs.Refusal.{Done}
 use Rattle.frames.specs.Laws.Reading.{lent_done}
-use Rattle.frames.proofs.read.Laws.{two_refused, two_done}
+use Rattle.frames.proofs.read.Laws.{two_done}
 use Rattle.frames.proofs.read.read_subframe2.Goals as goal
 
 pub subframe2_in-requires : goal.subframe2_in-requires
 subframe2_in-requires c =
-    let f = c.args.frame.now in
-    let lent = lent_done f Done (sym c.judge_lent.ensures ∙ c.in-Done.is) in
+    let lent = lent_done c.args.frame.now Done (sym c.judge_lent.ensures ∙ c.in_ok-judge_lent.was) in
     (lent.0, lent.1)
 
-pub returns-in-Refused : goal.returns-in-Refused
-returns-in-Refused c =
-    let f = c.args.frame.now in
-    c.no_fields.ensures
-    ∙ two_refused f c.in-Refused.r (sym c.judge_lent.ensures ∙ c.in-Refused.is)
-
-pub returns-in-Done : goal.returns-in-Done
-returns-in-Done c =
-    let f = c.args.frame.now in
-    c.subframe2_in.ensures ∙ two_done f (sym c.judge_lent.ensures ∙ c.in-Done.is)
+pub returns : goal.returns
+returns c = c.subframe2_in.ensures ∙ two_done c.args.frame.now (sym c.judge_lent.ensures ∙ c.in_ok-judge_lent.was)
