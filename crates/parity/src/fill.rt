@@ -7,7 +7,7 @@ ghost use Rattle.parity.specs.Fill.{with_parity, fill_answer, fill_bytes};
 
 use super::equations::{is_block, last_sum};
 use tables::matrix::{Subframe, Submatrix, add, equations, solve};
-use words::bits::{copy, first_not_bit};
+use words::bits::first_not_bit;
 use words::refusal::{Answer, LENGTH, NOT_A_BIT, refuse};
 
 // T⁻¹ times the sums.
@@ -15,7 +15,7 @@ fn solve_into(subframe: Subframe, sums: &[u8], unknowns: &mut [u8])
     requires { length sums.now ≡ length unknowns.old }
     ensures { unknowns.new ≡ solved (matrix_of subframe).t sums.now }
 {
-    copy(sums, unknowns);
+    unknowns.copy_from_slice(sums);
     solve(subframe, unknowns);
 }
 
