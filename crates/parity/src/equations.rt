@@ -30,25 +30,21 @@ fn add_side_by_side(
     requires { length block.now ≡ (matrix_of subframe).equations + (matrix_of subframe).equations }
     ensures { sums.new ≡ side_by_side (matrix_of subframe) left middle right block.now sums.old }
 {
-    let n = equations(subframe);
-    let m = n + 1;
-    add(subframe, left, &block[..n], sums);
-    add(subframe, middle, &block[n..m], sums);
-    add(subframe, right, &block[m..], sums);
+    let (data, parity) = block.split_at(equations(subframe));
+    let (p1, p2) = parity.split_at(1);
+    add(subframe, left, data, sums);
+    add(subframe, middle, p1, sums);
+    add(subframe, right, p2, sums);
 }
 
 // The number, from 1, of the first odd sum; 0 where all are even.
 fn first_odd(sums: &[u8]) -> usize
     ensures { result ≡ first_odd (symbol_at sums.now) 1 (length sums.now) }
 {
-    let mut k: usize = 0;
-    while k < sums.len() {
-        if sums[k] % 2 != 0 {
-            return k + 1;
-        }
-        k += 1;
+    match sums.iter().position(|sum| sum % 2 != 0) {
+        Some(k) => k + 1,
+        None => 0,
     }
-    0
 }
 
 // The sum modulo 2 of the last equation.

@@ -67,13 +67,7 @@ pub fn place_before(index: usize) -> Result<usize, Refusal>
 fn has_lengths(count2: usize, count3: usize, count: usize) -> bool
     ensures { result ≡ right_lengths count2 count3 count }
 {
-    if count2 != SYMBOLS_2 {
-        return false;
-    }
-    if count3 != SYMBOLS_3 {
-        return false;
-    }
-    count == SYMBOLS
+    count2 == SYMBOLS_2 && count3 == SYMBOLS_3 && count == SYMBOLS
 }
 
 // Done where the first byte that is no bit is past the last symbol, and else refused 2 there.
@@ -116,10 +110,8 @@ fn put_in_order(block2: &[u8], block3: &[u8], symbols: &mut [u8])
     requires { (length block2.now + length block3.now ≡ SYMBOLS) × (length symbols.old ≡ SYMBOLS) }
     ensures { symbols.new ≡ interleaved (block2.now ++ block3.now) }
 {
-    let mut i: usize = 0;
-    while i < SYMBOLS {
-        symbols[i] = symbol_at(block2, block3, stood_at(i));
-        i += 1;
+    for (i, symbol) in symbols.iter_mut().enumerate() {
+        *symbol = symbol_at(block2, block3, stood_at(i));
     }
 }
 
@@ -155,10 +147,8 @@ fn take_block(symbols: &[u8], from: usize, block: &mut [u8])
     requires { (length symbols.now ≡ SYMBOLS) × (from + length block.old ≤ SYMBOLS) }
     ensures { block.new ≡ symbols_at leaves_at symbols.now from (length block.old) }
 {
-    let mut i: usize = 0;
-    while i < block.len() {
-        block[i] = symbols[leaves_at(from + i)];
-        i += 1;
+    for (i, symbol) in block.iter_mut().enumerate() {
+        *symbol = symbols[leaves_at(from + i)];
     }
 }
 

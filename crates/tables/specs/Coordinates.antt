@@ -13,6 +13,11 @@ coordinates [] = []
 coordinates (i ∷ []) = []
 coordinates (i ∷ j ∷ t) = rc i j ∷ coordinates t
 
+-- ones that are given by their row and column
+unfoldable pub ones : List (ℕ × ℕ) → List Coordinate
+ones [] = []
+ones (one ∷ t) = rc one.0 one.1 ∷ ones t
+
 -- the ones of sheets, one after another
 unfoldable pub of_sheets : List (List ℕ) → List Coordinate
 of_sheets [] = []

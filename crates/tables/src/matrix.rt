@@ -1,14 +1,15 @@
 // The parity-check matrix of each subframe, by the ones of its six submatrices (3.2.3.4).
 ghost use Rattle.std.specs.Prelude.{◌≡◌};
-ghost use Rattle.tables.specs.Coordinates.{added, solved};
-ghost use Rattle.tables.specs.Matrix.{matrix_of, submatrix_of, subframe2, subframe3};
+ghost use Rattle.tables.specs.Coordinates.{ones, added, solved};
+ghost use Rattle.tables.specs.Matrix.{matrix_of, submatrix_of};
 
-use super::a2::add_a2;
-use super::a3::add_a3;
-use super::bcde2::{add_b2, add_c2, add_d2, add_e2};
-use super::bcde3::{add_b3, add_c3, add_d3, add_e3};
-use super::t2::{add_t2, solve_t2};
-use super::t3::{add_t3, solve_t3};
+use super::a2::A2;
+use super::a3::A3;
+use super::bcde2::{B2, C2, D2, E2};
+use super::bcde3::{B3, C3, D3, E3};
+use super::pass::{add_ones, solve_ones};
+use super::t2::T2;
+use super::t3::T3;
 
 // The subframes that have parity.
 #[derive(Clone, Copy)]
@@ -38,29 +39,24 @@ pub fn equations(subframe: Subframe) -> usize
     }
 }
 
-fn add2(submatrix: Submatrix, symbols: &[u8], sums: &mut [u8])
-    ensures { sums.new ≡ added (submatrix_of subframe2 submatrix) symbols.now sums.old }
+// The ones of a submatrix, each by its row and its column. That they are the printed ones is proved by computing both lists.
+#[tactic(auto, unfolding(crate::specs::Coordinates::ones, crate::specs::Coordinates::coordinates))]
+fn ones_of(subframe: Subframe, submatrix: Submatrix) -> &'static [(u16, u16)]
+    ensures { ones result.now ≡ submatrix_of (matrix_of subframe) submatrix }
 {
-    match submatrix {
-        Submatrix::A => add_a2(symbols, sums),
-        Submatrix::B => add_b2(symbols, sums),
-        Submatrix::T => add_t2(symbols, sums),
-        Submatrix::C => add_c2(symbols, sums),
-        Submatrix::D => add_d2(symbols, sums),
-        Submatrix::E => add_e2(symbols, sums),
-    }
-}
-
-fn add3(submatrix: Submatrix, symbols: &[u8], sums: &mut [u8])
-    ensures { sums.new ≡ added (submatrix_of subframe3 submatrix) symbols.now sums.old }
-{
-    match submatrix {
-        Submatrix::A => add_a3(symbols, sums),
-        Submatrix::B => add_b3(symbols, sums),
-        Submatrix::T => add_t3(symbols, sums),
-        Submatrix::C => add_c3(symbols, sums),
-        Submatrix::D => add_d3(symbols, sums),
-        Submatrix::E => add_e3(symbols, sums),
+    match (subframe, submatrix) {
+        (Subframe::Two, Submatrix::A) => &A2,
+        (Subframe::Two, Submatrix::B) => &B2,
+        (Subframe::Two, Submatrix::T) => &T2,
+        (Subframe::Two, Submatrix::C) => &C2,
+        (Subframe::Two, Submatrix::D) => &D2,
+        (Subframe::Two, Submatrix::E) => &E2,
+        (Subframe::Three, Submatrix::A) => &A3,
+        (Subframe::Three, Submatrix::B) => &B3,
+        (Subframe::Three, Submatrix::T) => &T3,
+        (Subframe::Three, Submatrix::C) => &C3,
+        (Subframe::Three, Submatrix::D) => &D3,
+        (Subframe::Three, Submatrix::E) => &E3,
     }
 }
 
@@ -69,18 +65,12 @@ fn add3(submatrix: Submatrix, symbols: &[u8], sums: &mut [u8])
 pub fn add(subframe: Subframe, submatrix: Submatrix, symbols: &[u8], sums: &mut [u8])
     ensures { sums.new ≡ added (submatrix_of (matrix_of subframe) submatrix) symbols.now sums.old }
 {
-    match subframe {
-        Subframe::Two => add2(submatrix, symbols, sums),
-        Subframe::Three => add3(submatrix, symbols, sums),
-    }
+    add_ones(ones_of(subframe, submatrix), symbols, sums);
 }
 
 // T⁻¹ times what is lent, in place, by forward substitution.
 pub fn solve(subframe: Subframe, unknowns: &mut [u8])
     ensures { unknowns.new ≡ solved (matrix_of subframe).t unknowns.old }
 {
-    match subframe {
-        Subframe::Two => solve_t2(unknowns),
-        Subframe::Three => solve_t3(unknowns),
-    }
+    solve_ones(ones_of(subframe, Submatrix::T), unknowns);
 }

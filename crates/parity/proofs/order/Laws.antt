@@ -7,7 +7,7 @@ use Prim.Native.Nat.{ℕ, suc, ◌+◌, ◌-◌, ◌≤◌, ◌<◌}
 use native.Mathlib.Numerals.{add-one}
 use native.Mathlib.Omega.{arith}
 use lib.ListN.{length, get_or, take, set}
-use lib.Seq.{take-suc-set, append_snoc, take_all, get_or-append-add}
+use lib.Seq.{take-suc-set, append_snoc, take_all}
 use Rattle.words.specs.Refusal.{left_if, Answer}
 use Rattle.parity.specs.Order.{symbols_at, all_bits, bits_answer, order_answer, order_leaves}
 
@@ -30,12 +30,6 @@ unfolding symbols_at
 symbols_done p l out whole at i n count h e =
     sym (ap (λ (k : ℕ). take i out ++ symbols_at p l at k) (let e : n - i ≡ 0 = omega arith in e)
     ∙ append-nil (take i out) ∙ take_all i out (omega arith)) ∙ e
-
--- a symbol past the first block is one of the second
-pub symbol_behind : (a b : List ℕ) (k : ℕ) → length a ≤ k → get_or b (k - length a) 0 ≡ get_or (a ++ b) k 0
-symbol_behind a b k h =
-    sym (ap (λ (j : ℕ). get_or (a ++ b) j 0) (let e : k ≡ length a + (k - length a) = omega arith in e)
-    ∙ get_or-append-add a b (k - length a) 0)
 
 -- ---- what is judged
 

@@ -60,10 +60,7 @@ pub put_together : (M : Matrix) (x : List ℕ) → 1 ≤ M.equations → length 
     → x ≡ data_of M x ++ get_or x M.equations 0 ∷ p2_of M x
 put_together M x some lx = split_at x M.equations 0 (omega arith) ∙ rw (← add-one M.equations)
 
--- ---- parts of a list as they are lent
-
-pub one_part : (n : ℕ) (x : List ℕ) → take (n + 1 - n) (drop n x) ≡ take 1 (drop n x)
-one_part n x = ap (λ (k : ℕ). take k (drop n x)) (let e : n + 1 - n ≡ 1 = omega arith in e)
+-- ---- the rest of a list as it is lent
 
 pub rest_part : (n : ℕ) (x : List ℕ) → take (length x - n) (drop n x) ≡ drop n x
 rest_part n x = take_all (length x - n) (drop n x) (omega (arith, length-drop n x))

@@ -1,43 +1,11 @@
 -- The scan for the first odd sum.
 -- Assumes nothing.
 use Rattle.std.specs.Prelude.{◌≡◌, refl, Bool, true, false, cond, List, ◌≢◌, ℕ, zero, suc, ◌+◌, ◌-◌, ◌%◌, ◌≤◌, ◌<◌, eqb, length, get_or}
-use Rattle.std.proofs.Common.{ap, ⊎_elim, arith, eq-eqb, ne_eqb, eqb-true}
+use Rattle.std.proofs.Common.{ap, ◌∙◌, ⊎_elim, arith, eqb-true}
 use Rattle.std.proofs.lemmas.Bool.{eqb-false}
 use Rattle.tables.specs.Coordinates.{symbol_at}
-use Rattle.tables.specs.Laws.Cases.{same_or_not}
+use Rattle.tables.specs.Laws.Cases.{same_or_not, before_or_not}
 use Rattle.parity.specs.Equations.{first_odd}
-
--- ---- a list of sums scanned by index
-
-odd_none : (f : ℕ → ℕ) (r n : ℕ) → n ≡ 0 → first_odd f r n ≡ 0
-unfolding first_odd
-odd_none f r zero e = refl
-odd_none f r (suc n) e = absurd (omega arith)
-
-odd_here : (f : ℕ → ℕ) (r n : ℕ) → 0 < n → f r % 2 ≢ 0 → first_odd f r n ≡ r
-unfolding first_odd
-odd_here f r zero h ne = absurd (omega arith)
-odd_here f r (suc n) h ne = rw (ne_eqb (f r % 2) 0 ne)
-
-odd_next : (f : ℕ → ℕ) (r n n' : ℕ) → n ≡ n' + 1 → f r % 2 ≡ 0 → first_odd f r n ≡ first_odd f (r + 1) n'
-unfolding first_odd
-odd_next f r zero n' h e = absurd (omega arith)
-odd_next f r (suc n) n' h e = rw (eq-eqb (f r % 2) 0 e) (ap (first_odd f (r + 1)) (let g : n ≡ n' = omega arith in g))
-
-at_index : (sums : List ℕ) (k : ℕ) → symbol_at sums (k + 1) ≡ get_or sums k 0
-at_index sums k = ap (λ (v : ℕ). get_or sums v 0) (let e : k + 1 - 1 ≡ k = omega arith in e)
-
-pub scan_here : (sums : List ℕ) (k : ℕ) → k < length sums → get_or sums k 0 % 2 ≢ 0
-    → first_odd (symbol_at sums) (k + 1) (length sums - k) ≡ k + 1
-scan_here sums k h ne = odd_here (symbol_at sums) (k + 1) (length sums - k) (omega arith) (λ e. ne (omega (arith, at_index sums k)))
-
-pub scan_next : (sums : List ℕ) (k : ℕ) → k < length sums → get_or sums k 0 % 2 ≡ 0
-    → first_odd (symbol_at sums) (k + 1) (length sums - k) ≡ first_odd (symbol_at sums) (k + 1 + 1) (length sums - (k + 1))
-scan_next sums k h e =
-    odd_next (symbol_at sums) (k + 1) (length sums - k) (length sums - (k + 1)) (omega arith) (omega (arith, at_index sums k))
-
-pub scan_end : (sums : List ℕ) (k : ℕ) → length sums ≤ k → first_odd (symbol_at sums) (k + 1) (length sums - k) ≡ 0
-scan_end sums k h = odd_none (symbol_at sums) (k + 1) (length sums - k) (omega arith)
 
 -- ---- what the scan finds
 
@@ -70,3 +38,31 @@ scanned f r (suc n) = go (eqb (f r % 2) 0) refl (scanned f (r + 1) n)
         → Scanned f r (suc n) (cond b (first_odd f (r + 1) n) r)
     go true e s = next (eqb-true (f r % 2) 0 e) (first_odd f (r + 1) n) s
     go false e s = first_is (omega arith) (omega arith) (eqb-false (f r % 2) 0 e) (λ k lo hi. absurd (omega arith))
+
+-- ---- a list of sums, counted from 0
+
+even_at : (sums : List ℕ) (e : ℕ) → ((k : ℕ) → k < e → get_or sums k 0 % 2 ≡ 0) → (r : ℕ) → 1 ≤ r → r ≤ e → symbol_at sums r % 2 ≡ 0
+even_at sums e h r lo hi = h (r - 1) (omega arith)
+
+pub scan_none : (sums : List ℕ) → ((k : ℕ) → k < length sums → get_or sums k 0 % 2 ≡ 0)
+    → first_odd (symbol_at sums) 1 (length sums) ≡ 0
+scan_none sums h = go _ (scanned (symbol_at sums) 1 (length sums))
+  where
+    go : (v : ℕ) → Scanned (symbol_at sums) 1 (length sums) v → v ≡ 0
+    go v (all_even z even) = z
+    go v (first_is lo hi odd even) = absurd (odd (even_at sums (length sums) h v lo (omega arith)))
+
+pub scan_first : (sums : List ℕ) (k : ℕ) → k < length sums → get_or sums k 0 % 2 ≢ 0
+    → ((i : ℕ) → i < k → get_or sums i 0 % 2 ≡ 0) → first_odd (symbol_at sums) 1 (length sums) ≡ k + 1
+scan_first sums k h odd_here before = go _ (scanned (symbol_at sums) 1 (length sums))
+  where
+    odd_now : symbol_at sums (k + 1) % 2 ≡ 0 → ⊥
+    odd_now e = odd_here (ap (λ (i : ℕ). get_or sums i 0 % 2) (let i : k ≡ k + 1 - 1 = omega arith in i) ∙ e)
+
+    go : (v : ℕ) → Scanned (symbol_at sums) 1 (length sums) v → v ≡ k + 1
+    go v (all_even z even) = absurd (odd_now (even (k + 1) (omega arith) (omega arith)))
+    go v (first_is lo hi odd even) =
+        ⊎_elim (λ (lt : v < k + 1). absurd (odd (even_at sums k before v lo (omega arith))))
+        (λ (ge : k + 1 ≤ v).
+        ⊎_elim (λ (gt : k + 1 < v). absurd (odd_now (even (k + 1) (omega arith) gt))) (λ (le : v ≤ k + 1). omega arith)
+        (before_or_not (k + 1) v)) (before_or_not v (k + 1))

@@ -1,42 +1,24 @@
--- `parity::equations::first_odd` meets its contract. The invariant: the scan from here finds what the whole scan finds.
--- Assumes nothing.
-use mathlib.Core.Path.{◌≡◌, sym, ◌∙◌, ap}
-use Prim.Native.Nat.{◌-◌}
-use native.Mathlib.Omega.{arith}
-use lib.ListN.{length}
-use Rattle.tables.specs.Coordinates.{symbol_at}
-use Rattle.parity.specs.Equations.{first_odd}
-use Rattle.parity.specs.Laws.Scan.{scan_here, scan_next, scan_end}
+use Rattle.std.proofs.Common.{◌≡◌, ◌≢◌, ◌%◌, ◌<◌, length, MatchOption, sym, arith, rules, tests}
+use Rattle.std.specs.List.{HoldsAt, AllWithin}
+use Rattle.std.proofs.lemmas.Iterator.{IsFirst-from_position, YieldsList-from_slice}
+use Rattle.parity.specs.Laws.Scan.{scan_none, scan_first}
+use Rattle.parity.proofs.equations.first_odd.Goals.{After-position}
 use Rattle.parity.proofs.equations.first_odd.Goals as goal
 
-pub loop-k-init : goal.loop-k-init
-loop-k-init c =
-    let sums = c.args.sums.now in
-    (omega arith, ap (first_odd (symbol_at sums) 1) (let e : length sums - 0 ≡ length sums = omega arith in e))
+-- `position` gives the first odd sum
+found : (c : After-position) → (let sums = c.args.sums.now in
+    MatchOption c.position.result (AllWithin (λ x. x % 2 ≡ 0) sums 0 (length sums))
+    (λ k. (k < length sums) × HoldsAt (λ x. x % 2 ≢ 0) sums k × AllWithin (λ x. x % 2 ≡ 0) sums 0 k))
+found c =
+    IsFirst-from_position _ _ _ (λ x. x % 2 ≢ 0) (λ x. x % 2 ≡ 0) c.position.ensures.ran (YieldsList-from_slice _ c.iter.ensures.rest)
+    (λ x q k. search (rules, tests)) (λ x q k. search (rules, tests))
 
-pub bounds-sums-k : goal.bounds-sums-k
-bounds-sums-k c = omega arith
+pub returns-in-Some : goal.returns-in-Some
+returns-in-Some c =
+    let first = rw c.in-Some.is at (found (goal.at.returns-in-Some c).After-position) in
+    sym (scan_first c.args.sums.now c.in-Some.k first.0 (first.1 0) (λ i lt. first.2 i 0 (omega arith) lt))
 
-pub overflow_add-result : goal.overflow_add-result
-overflow_add-result c = omega arith
-
-pub returns-then-sums-k-ne0 : goal.returns-then-sums-k-ne0
-returns-then-sums-k-ne0 c =
-    sym (scan_here c.args.sums.now c.loop-k.k c.loop-k-test.true c.if-sums-k-ne0.true)
-    ∙ c.loop-k.invariant.1
-
-pub overflow_add-k : goal.overflow_add-k
-overflow_add-k c = omega arith
-
-pub loop-k-smaller : goal.loop-k-smaller
-loop-k-smaller c = omega arith
-
-pub loop-k-preserved : goal.loop-k-preserved
-loop-k-preserved c = (
-  omega arith,
-  sym (scan_next c.args.sums.now c.loop-k.k c.loop-k-test.true c.if-sums-k-ne0.false)
-      ∙ c.loop-k.invariant.1,
-)
-
-pub returns : goal.returns
-returns c = sym (scan_end c.args.sums.now c.loop-k.k c.loop-k-test.false) ∙ c.loop-k.invariant.1
+pub returns-in-None : goal.returns-in-None
+returns-in-None c =
+    let none = rw c.in-None.is at (found (goal.at.returns-in-None c).After-position) in
+    sym (scan_none c.args.sums.now (λ i lt. none i 0 (omega arith) lt))

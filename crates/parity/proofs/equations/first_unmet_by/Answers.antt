@@ -1,29 +1,9 @@
--- `parity::equations::first_unmet_by` meets its contract: its sums are those of the equations, modulo 2. Assumes nothing.
-use mathlib.Core.Path.{ap, ◌∙◌}
-use Prim.Native.Nat.{ℕ}
-use native.Mathlib.Omega.{arith}
-use lib.ListN.{length, length-replicate}
+-- The sums are those of the equations, modulo 2.
+use Rattle.std.proofs.Common.{◌∙◌}
 use Rattle.tables.specs.Matrix.{matrix_of}
 use Rattle.tables.specs.Published.{proper}
-use Rattle.tables.specs.declared.matrix.Submatrix.TheVariants.{A, B, T}
-use Rattle.parity.specs.Laws.Passed.{length_side, first_odd_sum}
+use Rattle.parity.specs.Laws.Passed.{first_odd_sum}
 use Rattle.parity.proofs.equations.first_unmet_by.Goals as goal
-
-pub overflow_sub-last : goal.overflow_sub-last
-overflow_sub-last c = omega (arith, c.equations-last.ensures, (proper c.args.subframe).some)
-
-pub bounds-sums-last : goal.bounds-sums-last
-bounds-sums-last c =
-    let n = (matrix_of c.args.subframe).equations in
-    omega (
-      arith,
-      c.equations-last.ensures,
-      (proper c.args.subframe).some,
-      ap length c.add_side_by_side.ensures,
-      length_side (matrix_of c.args.subframe) A B T c.args.block.now c.args.sums.now,
-      ap length c.requires.1,
-      length-replicate {A = ℕ} n 0,
-    )
 
 pub returns : goal.returns
 returns c =

@@ -1,25 +1,24 @@
--- `tables::pass::solve_ones` meets its contract. The invariant: the rest of the substitution over the unknowns now gives what the
--- whole gives over the sums at entry. Assumes nothing.
-use mathlib.Core.Path.{refl, sym, ap, ◌∙◌}
-use native.Mathlib.Omega.{arith}
-use lib.ListN.{length}
-use Rattle.tables.specs.Coordinates.{solved}
-use Rattle.tables.specs.Laws.Passes.{length_substituted, solved_at, solved_end}
+use Rattle.std.proofs.Common.{◌≡◌, get_or, sym, ◌∙◌, eq-eqb, ne_eqb}
+use Rattle.std.proofs.lemmas.List.{at_drop_more, at_drop_all}
+use Rattle.tables.specs.Coordinates.{ones, substituted, solved}
 use Rattle.tables.proofs.pass.solve_ones.Goals as goal
+use Rattle.tables.proofs.pass.solve_ones.Goals.{then-row-column, else-row-column}
 
-pub loop-k-init : goal.loop-k-init
-loop-k-init c = (omega arith, refl, refl)
-
-pub loop-k-preserved : goal.loop-k-preserved
-loop-k-preserved c =
-    let loop = c.loop-k in (
-      omega arith,
-      ap length c.solve_one.ensures ∙ simp length_substituted loop.invariant.1,
-      ap (solved _) c.solve_one.ensures ∙ sym (solved_at _ _ _ c.loop-k-test.true) ∙ loop.invariant.2,
-    )
-
-pub shape_of-unknowns : goal.shape_of-unknowns
-shape_of-unknowns c = c.loop-k.invariant.1
+pub loop-row-preserved : goal.loop-row-preserved
+unfolding ones solved
+loop-row-preserved c =
+    let loop = c.loop-row in
+    let one = get_or c.args.table.now loop.row-index (0, 0) in
+    let next = at_drop_more (λ t. solved (ones t) loop.unknowns) c.args.table.now loop.row-index (0, 0) c.loop-row-test.true in
+    let step : c.if-row-column.unknowns ≡ substituted loop.unknowns one.0 one.1 =
+    elim c.if-row-column.branch [
+      | then-row-column w ↦ rw (w.unknowns-is, w.add_at.ensures, w.symbol_at.ensures, ne_eqb one.0 one.1 w.if-row-column.true)
+      | else-row-column w ↦ rw (w.unknowns-is, eq-eqb one.0 one.1 w.if-row-column.false)
+    ] in
+    rw step (sym next ∙ loop.invariant)
 
 pub returns : goal.returns
-returns c = sym (solved_end _ _ _ c.loop-k-test.false) ∙ c.loop-k.invariant.2
+unfolding ones solved
+returns c =
+    let loop = c.loop-row in
+    sym (at_drop_all (λ t. solved (ones t) loop.unknowns) c.args.table.now loop.row-index c.loop-row-test.false) ∙ loop.invariant
