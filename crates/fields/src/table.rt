@@ -5,7 +5,7 @@ ghost use Rattle.fields.specs.Table.{fields_in, no_field, bit_count};
 use super::rows::fields_of;
 
 // A field: its width in bits, whether it has a sign, and its range. With a sign the counts go from -(most + 1) to most, and `least` is 0.
-#[derive(Clone, Copy)]
+#[derive(Clone, Copy, PartialEq, Eq, Debug)]
 pub struct Field {
     pub width: usize,
     pub signed: bool,
@@ -14,7 +14,7 @@ pub struct Field {
 }
 
 // The tables; a page that is carried as bits has no fields.
-#[derive(Clone, Copy)]
+#[derive(Clone, Copy, PartialEq, Eq, Debug)]
 pub enum Table {
     Subframe2,
     Page1,

@@ -11,7 +11,7 @@ use lib.Pow.{pow_mono}
 use lib.Seq.{take_at, drop_at, take_all, length-take-le, drop-drop}
 use borrow.Author.Tests.{eq-eqb}
 use Rattle.words.specs.Bits.{value_of, bits_of, number_bytes, copy_bytes}
-use Rattle.words.specs.Refusal.{left_if, left_by}
+use Rattle.words.specs.Refusal.{left_if}
 use Rattle.words.specs.Laws.Digits.{length_bits}
 use Rattle.words.specs.declared.refusal.Answer.{Answer}
 use Rattle.words.specs.declared.refusal.Answer.TheVariants.{Done, Refused}
@@ -19,7 +19,7 @@ use Rattle.words.specs.declared.refusal.Refusal.{Refusal}
 use Rattle.fields.specs.Table.{bit_count}
 use Rattle.fields.specs.Counts.{bits_of_counts}
 use Rattle.fields.specs.Pages.{page_fields, page_counts, record_of, no_page, taken_by, page_from}
-use Rattle.fields.specs.CountsBack.{length_counts, length_bits_of}
+use Rattle.fields.specs.CountsBack.{length_bits_of}
 use Rattle.fields.specs.Laws.Counts.{value_below}
 use Rattle.fields.specs.Laws.Pages.{few_counts, few_bits}
 use Rattle.fields.proofs.counts.Laws.{number_put}
@@ -48,13 +48,6 @@ pub counts_are : (kind : Kind) (l : List ℕ) (n : ℕ) (new zeros : List ℤ) �
 counts_are kind l n new zeros e f g =
     ap₂ (λ (x y : List ℤ). x ++ y) f
     (ap₂ (λ (k : ℕ) (x : List ℤ). drop k x) e g ∙ rest_same (pos 0) 30 (length (page_fields kind)) (few_counts kind))
-
--- which are as many as a record has
-pub length_record_counts : (kind : Kind) (l : List ℕ) (zs : List ℤ) → zs ≡ (record_of kind l).counts → length zs ≡ 30
-length_record_counts kind l zs e =
-    let zeros = replicate (30 - length (page_fields kind)) (pos 0) in
-    ap length e ∙ length-append (page_counts kind l) zeros
-    ∙ omega (arith, few_counts kind, length_counts (page_fields kind) (drop 14 l), length-replicate (30 - length (page_fields kind)) (pos 0))
 
 -- bytes copied over as many
 bytes_copied : (from into out : List ℕ) → length from ≡ length into → out ≡ copy_bytes from into → out ≡ from
@@ -85,13 +78,6 @@ pub taken_refused : (a : Answer) (r : Refusal) (p q : Page) → a ≡ Refused r 
 taken_refused a r p q e f = ap (λ (x : Page). record { answer = Refused r; page = x }) f ∙ ap (λ (x : Answer). taken_by x q) (sym e)
 
 -- ---- putting
-
--- what is left by an answer
-pub left_done : (a : Answer) (out new l : List ℕ) → a ≡ Done → out ≡ new → out ≡ left_by a new l
-left_done a out new l e f = f ∙ ap (λ (x : Answer). left_by x new l) (sym e)
-
-pub left_refused : (a : Answer) (r : Refusal) (new l : List ℕ) → a ≡ Refused r → l ≡ left_by a new l
-left_refused a r new l e = ap (λ (x : Answer). left_by x new l) (sym e)
 
 -- PRN and page number put before the body
 pub head_put : (l first second : List ℕ) (prn number : ℕ) → length l ≡ 250 → prn < 2 ^ 8 → number < 64
