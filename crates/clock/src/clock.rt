@@ -35,6 +35,9 @@ const AF2: Term = Term {
     step: 60,
 };
 
+// 2^63, behind the largest i64.
+const I64_END: f64 = 9223372036854775808.0;
+
 // The clock terms.
 #[derive(Clone, Copy)]
 pub struct Clock {
@@ -64,7 +67,7 @@ fn power(e: u64) -> f64
     requires { (0 < e) × (e < 2047) }
     ensures { result ≡ fin false 1 (minus (e + 51) 1074) }
 {
-    f64::from_bits(e * 4503599627370496)
+    f64::from_bits(e << 52)
 }
 
 impl Term {
@@ -90,7 +93,7 @@ impl Term {
         ensures { result ≡ count_in self.step (signed_field self.width) x }
     {
         let y = x * power(1023 + self.step);
-        if y >= -9223372036854775808.0 && y < 9223372036854775808.0 {
+        if y >= -I64_END && y < I64_END {
             let n = std::num::truncating_f64_to_i64(y);
             if self.has_width(n) && f64::to_bits(self.term_of(n)) == f64::to_bits(x) {
                 return Some(n);
