@@ -1,7 +1,7 @@
 -- The clock terms (document 01, "Subframe 2"; IS-GPS-800, Table 3.5-1): af0 times 2^-35, af1 times 2^-48 and af2 times 2^-60 as one record
 -- of three 64-bit floating numbers, and taken back to counts.
 -- Assumes nothing.
-use Rattle.std.specs.Prelude.{◌≡◌, ℕ, ◌*◌, ◌/◌, ◌%◌, ◌^◌, Bool, true, false, cond, not, ◌&&◌, ℤ, pos, negsuc, neg_ℤ, ◌==◌, slice_index_or, unsigned_abs, Float}
+use Rattle.std.specs.Prelude.{◌≡◌, ℕ, ◌*◌, ◌/◌, ◌%◌, ◌^◌, Bool, true, false, cond, not, ◌&&◌, ℤ, pos, negsuc, neg_ℤ, ◌==◌, slice_index_or, unsigned_abs, Float, Option, None, Some}
 use Rattle.std.specs.Float.{nan, inf, fin, binary64}
 use Rattle.std.specs.Float.Ieee.{up, down, round}
 use Rattle.std.specs.Float.Ieee.Exact.{HasValue}
@@ -15,8 +15,6 @@ use Rattle.fields.specs.declared.table.Table.TheVariants.{Subframe2}
 use Rattle.clock.specs.declared.clock.Clock.{Clock}
 use Rattle.clock.specs.declared.clock.ClockTaken.{ClockTaken}
 use Rattle.clock.specs.declared.clock.ClockCounts.{ClockCounts}
-use Rattle.clock.specs.declared.clock.Count.{Count}
-use Rattle.clock.specs.declared.clock.Count.TheVariants.{Is, Not}
 
 -- ---- one count and one floating number, in steps of 2^-k
 
@@ -39,13 +37,13 @@ with_sign false q = pos q
 with_sign true q = neg_ℤ (pos q)
 
 -- q steps and a part r of one, with a sign: their count, if there is no part, it is not minus zero, and it is in the field's range
-abbrev pub whole_in : Field → Bool → ℕ → ℕ → Count
-whole_in f s r q = cond (r == 0 && (not (s && q == 0) && in_range f (with_sign s q))) (Is (with_sign s q)) Not
+abbrev pub whole_in : Field → Bool → ℕ → ℕ → Option ℤ
+whole_in f s r q = cond (r == 0 && (not (s && q == 0) && in_range f (with_sign s q))) (Some (with_sign s q)) None
 
 -- the count in the field's range whose product with 2^-k this is: m * 2^e, in steps of 2^-k; what is not finite is none
-unfoldable pub count_in : ℕ → Field → Float → Count
-count_in k f nan = Not
-count_in k f (inf s) = Not
+unfoldable pub count_in : ℕ → Field → Float → Option ℤ
+count_in k f nan = None
+count_in k f (inf s) = None
 count_in k f (fin s m e) = whole_in f s (m * up e * 2 ^ k % down e) (m * up e * 2 ^ k / down e)
 
 -- a two's complement field of w bits, for its range alone
@@ -129,14 +127,14 @@ clock_taken a b c = clock_by (clock_answer (is_count_of AF0 a) (is_count_of AF1 
 -- ---- taking counts back
 
 -- there is a count
-abbrev pub is_count : Count → Bool
-is_count (Is z) = true
-is_count Not = false
+abbrev pub is_count : Option ℤ → Bool
+is_count (Some z) = true
+is_count None = false
 
 -- which; 0 where there is none
-abbrev pub the_count : Count → ℤ
-the_count (Is z) = z
-the_count Not = pos 0
+abbrev pub the_count : Option ℤ → ℤ
+the_count (Some z) = z
+the_count None = pos 0
 
 -- refused 6 at a bit, with zeros beside it
 abbrev pub no_clock_counts : ℕ → ClockCounts
@@ -148,7 +146,7 @@ counts_by Done a b c = record { answer = Done; af0 = a; af1 = b; af2 = c }
 counts_by (Refused r) a b c = record { answer = Refused r; af0 = pos 0; af1 = pos 0; af2 = pos 0 }
 
 -- the same of what three terms are taken back to
-abbrev pub counts_of_three : Count → Count → Count → ClockCounts
+abbrev pub counts_of_three : Option ℤ → Option ℤ → Option ℤ → ClockCounts
 counts_of_three s t u = counts_by (clock_answer (is_count s) (is_count t) (is_count u)) (the_count s) (the_count t) (the_count u)
 
 -- the counts whose clock terms these are; refused 6 at the first bit of the first field none of whose counts has the term given

@@ -1,6 +1,6 @@
 -- THEOREMS: clock terms are exact, they and they alone are taken back, to the same counts, and what is refused.
 -- Assumes nothing.
-use Rattle.std.specs.Prelude.{◌≡◌, ℕ, ◌^◌, ◌≤◌, Bool, true, false, T, ◌↔◌, ℤ, pos, negsuc, slice_index_or, refl, Float}
+use Rattle.std.specs.Prelude.{◌≡◌, ℕ, ◌^◌, ◌≤◌, Bool, true, false, T, ◌↔◌, ℤ, pos, negsuc, slice_index_or, refl, Float, Option, None, Some}
 use Rattle.std.proofs.Common.{sym, ap, ◌∙◌, subst, true≢false, zero-mul, arith, lit<, lit≤}
 use Prim.Native.String.{String}
 use Rattle.std.specs.Float.{nan, inf, fin, binary64}
@@ -15,8 +15,6 @@ use Rattle.clock.specs.Laws.Terms.{term_exact, only_exact, range_53, exact_back,
 use Rattle.clock.specs.Laws.ClockAnswers.{first_bits, signed_fields, narrow_fields, answer_done, wrong0, wrong1, wrong2, none_wrong}
 use Rattle.clock.specs.declared.clock.Clock.{Clock}
 use Rattle.clock.specs.declared.clock.ClockTaken.{ClockTaken}
-use Rattle.clock.specs.declared.clock.Count.{Count}
-use Rattle.clock.specs.declared.clock.Count.TheVariants.{Is, Not}
 
 -- ---- the rows of the table
 
@@ -100,16 +98,16 @@ terms_back a b c h =
     ) refl
 
 -- what three terms were taken back to, where nothing was refused
-record Three (r s t : Count) : Type 0 where
-  one : r ≡ Is (counts_of_three r s t).af0
-  two : s ≡ Is (counts_of_three r s t).af1
-  three : t ≡ Is (counts_of_three r s t).af2
+record Three (r s t : Option ℤ) : Type 0 where
+  one : r ≡ Some (counts_of_three r s t).af0
+  two : s ≡ Some (counts_of_three r s t).af1
+  three : t ≡ Some (counts_of_three r s t).af2
 
-three_done : (r s t : Count) → number_of (counts_of_three r s t).answer ≡ 0 → Three r s t
-three_done (Is a) (Is b) (Is c) e = record { one = refl; two = refl; three = refl }
-three_done (Is a) (Is b) Not e = absurd (omega (arith, e))
-three_done (Is a) Not t e = absurd (omega (arith, e))
-three_done Not s t e = absurd (omega (arith, e))
+three_done : (r s t : Option ℤ) → number_of (counts_of_three r s t).answer ≡ 0 → Three r s t
+three_done (Some a) (Some b) (Some c) e = record { one = refl; two = refl; three = refl }
+three_done (Some a) (Some b) None e = absurd (omega (arith, e))
+three_done (Some a) None t e = absurd (omega (arith, e))
+three_done None s t e = absurd (omega (arith, e))
 
 -- Three 64-bit floating numbers that are taken back are the terms of the counts given, which are in their widths; so nothing else is
 -- taken: what is not finite, minus zero, a part of a step, too large.
@@ -191,9 +189,9 @@ minus_zero_none k row h = go h.count h.exact
 is_term : (k row : ℕ) (x : Float) → (is_count (count_in k (clock_field row) x) ≡ true) ↔ IsTerm k row x
 is_term k row x = (so (count_in k (clock_field row) x) refl, λ h. ap is_count (exact_back k (clock_field row) h.count x h.fine h.exact))
   where
-    so : (r : Count) → count_in k (clock_field row) x ≡ r → is_count r ≡ true → IsTerm k row x
-    so (Is z) e t = let found = count_exact k (clock_field row) z x e in record { count = z; fine = found.1; exact = found.0 }
-    so Not e t = absurd (true≢false (sym t))
+    so : (r : Option ℤ) → count_in k (clock_field row) x ≡ r → is_count r ≡ true → IsTerm k row x
+    so (Some z) e t = let found = count_exact k (clock_field row) z x e in record { count = z; fine = found.1; exact = found.0 }
+    so None e t = absurd (true≢false (sym t))
 
 no_term : (k row : ℕ) (x : Float) → (is_count (count_in k (clock_field row) x) ≡ false) ↔ (IsTerm k row x → ⊥)
 no_term k row x = (λ e h. true≢false (sym ((is_term k row x).1 h) ∙ e), λ none. so (is_count (count_in k (clock_field row) x)) refl none)

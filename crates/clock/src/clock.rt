@@ -9,26 +9,34 @@ ghost use Rattle.clock.specs.Clock.{signed_field, term_of, count_in, no_clock, n
 use words::bits::magnitude;
 use words::refusal::{Answer, FIELD_2, refuse};
 
-// The widths of af0, af1 and af2.
-const AF0_WIDTH: u64 = 26;
+// A clock term: its width in bits, its first bit, and its step, which is 2^-step.
+#[derive(Clone, Copy)]
+struct Term {
+    width: u64,
+    bit: usize,
+    step: u64,
+}
 
-const AF1_WIDTH: u64 = 20;
+const AF0: Term = Term {
+    width: 26,
+    bit: 471,
+    step: 35,
+};
 
-const AF2_WIDTH: u64 = 10;
+const AF1: Term = Term {
+    width: 20,
+    bit: 497,
+    step: 48,
+};
 
-// Their first bits.
-const AF0_BIT: usize = 471;
+const AF2: Term = Term {
+    width: 10,
+    bit: 517,
+    step: 60,
+};
 
-const AF1_BIT: usize = 497;
-
-const AF2_BIT: usize = 517;
-
-// Their steps are 2^-35, 2^-48 and 2^-60.
-const AF0_STEP: u64 = 35;
-
-const AF1_STEP: u64 = 48;
-
-const AF2_STEP: u64 = 60;
+// 2^63, behind the largest i64.
+const I64_END: f64 = 9223372036854775808.0;
 
 // The clock terms.
 #[derive(Clone, Copy)]
@@ -54,54 +62,45 @@ pub struct ClockCounts {
     pub af2: i64,
 }
 
-// One floating number taken back: its count, or that it is the term of none.
-#[derive(Clone, Copy)]
-enum Count {
-    Is(i64),
-    Not,
-}
-
-// The count is in a signed field of this width.
-fn has_width(count: i64, width: u64) -> bool
-    requires { (0 < width) × (width ≤ 53) }
-    ensures { result ≡ in_range (signed_field width) count }
-{
-    magnitude(count) < 1u64 << (width - 1)
-}
-
 // 2^(e - 1023), made of its bits.
 fn power(e: u64) -> f64
     requires { (0 < e) × (e < 2047) }
     ensures { result ≡ fin false 1 (minus (e + 51) 1074) }
 {
-    f64::from_bits(e * 4503599627370496)
+    f64::from_bits(e << 52)
 }
 
-// The count times 2^-step.
-fn term_of(count: i64, step: u64) -> f64
-    requires { (step ≤ 1000) × (mag count < 2 ^ 52) }
-    ensures { result ≡ term_of step count }
-{
-    std::num::nearest_i64_to_f64(count) * power(1023 - step)
-}
+impl Term {
+    // The count is in a signed field of its width.
+    fn has_width(self, count: i64) -> bool
+        requires { (0 < self.width) × (self.width ≤ 53) }
+        ensures { result ≡ in_range (signed_field self.width) count }
+    {
+        magnitude(count) < 1u64 << (self.width - 1)
+    }
 
-// The count, in a signed field of this width, whose product with 2^-step this is.
-fn count_of(x: f64, step: u64, width: u64) -> Count
-    requires { (step ≤ 1000) × (0 < width) × (width ≤ 53) }
-    ensures { result ≡ count_in step (signed_field width) x }
-{
-    let y = x * power(1023 + step);
-    if y >= -9223372036854775808.0 {
-        if y < 9223372036854775808.0 {
+    // The count times its step.
+    fn term_of(self, count: i64) -> f64
+        requires { (self.step ≤ 1000) × (mag count < 2 ^ 52) }
+        ensures { result ≡ term_of self.step count }
+    {
+        std::num::nearest_i64_to_f64(count) * power(1023 - self.step)
+    }
+
+    // The count, in a signed field of its width, whose product with its step this is.
+    fn count_of(self, x: f64) -> Option<i64>
+        requires { (self.step ≤ 1000) × (0 < self.width) × (self.width ≤ 53) }
+        ensures { result ≡ count_in self.step (signed_field self.width) x }
+    {
+        let y = x * power(1023 + self.step);
+        if y >= -I64_END && y < I64_END {
             let n = std::num::truncating_f64_to_i64(y);
-            if has_width(n, width) {
-                if f64::to_bits(term_of(n, step)) == f64::to_bits(x) {
-                    return Count::Is(n);
-                }
+            if self.has_width(n) && f64::to_bits(self.term_of(n)) == f64::to_bits(x) {
+                return Some(n);
             }
         }
+        None
     }
-    Count::Not
 }
 
 // Refused 6 at this bit, with plus zeros beside it.
@@ -123,21 +122,21 @@ fn no_clock(place: usize) -> ClockTaken
 pub fn clock_of(af0: i64, af1: i64, af2: i64) -> ClockTaken
     ensures { result ≡ clock_taken af0 af1 af2 }
 {
-    if !has_width(af0, AF0_WIDTH) {
-        return no_clock(AF0_BIT);
+    if !AF0.has_width(af0) {
+        return no_clock(AF0.bit);
     }
-    if !has_width(af1, AF1_WIDTH) {
-        return no_clock(AF1_BIT);
+    if !AF1.has_width(af1) {
+        return no_clock(AF1.bit);
     }
-    if !has_width(af2, AF2_WIDTH) {
-        return no_clock(AF2_BIT);
+    if !AF2.has_width(af2) {
+        return no_clock(AF2.bit);
     }
     ClockTaken {
         answer: Answer::Done,
         clock: Clock {
-            af0: term_of(af0, AF0_STEP),
-            af1: term_of(af1, AF1_STEP),
-            af2: term_of(af2, AF2_STEP),
+            af0: AF0.term_of(af0),
+            af1: AF1.term_of(af1),
+            af2: AF2.term_of(af2),
         },
     }
 }
@@ -158,14 +157,14 @@ fn no_counts(place: usize) -> ClockCounts
 pub fn counts_of(clock: Clock) -> ClockCounts
     ensures { result ≡ clock_counts clock }
 {
-    let Count::Is(af0) = count_of(clock.af0, AF0_STEP, AF0_WIDTH) else {
-        return no_counts(AF0_BIT);
+    let Some(af0) = AF0.count_of(clock.af0) else {
+        return no_counts(AF0.bit);
     };
-    let Count::Is(af1) = count_of(clock.af1, AF1_STEP, AF1_WIDTH) else {
-        return no_counts(AF1_BIT);
+    let Some(af1) = AF1.count_of(clock.af1) else {
+        return no_counts(AF1.bit);
     };
-    let Count::Is(af2) = count_of(clock.af2, AF2_STEP, AF2_WIDTH) else {
-        return no_counts(AF2_BIT);
+    let Some(af2) = AF2.count_of(clock.af2) else {
+        return no_counts(AF2.bit);
     };
     ClockCounts {
         answer: Answer::Done,

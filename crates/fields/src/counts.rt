@@ -4,45 +4,41 @@ ghost use Rattle.std.proofs.lemmas.List.Edits.{sets};
 ghost use Rattle.fields.specs.Table.{fields_in, bit_count, usable};
 ghost use Rattle.fields.specs.Counts.{count_of, counts_in, bits_for, bits_of_counts, in_range, first_out};
 
-use super::table::{Field, Table, field_at};
+use super::rows::fields_of;
+use super::table::{Field, Table};
 use words::bits::{magnitude, put_number, put_signed, take_number, take_signed};
-
-// The number is within the field's range.
-fn is_within(field: Field, number: u64) -> bool
-    ensures { result ≡ (leb field.least number && leb number field.most) }
-{
-    if field.least <= number {
-        number <= field.most
-    } else {
-        false
-    }
-}
 
 // The count is in the field's range.
 pub fn in_range(field: Field, count: i64) -> bool
     ensures { result ≡ in_range field count }
 {
     let below = count < 0;
-    if below {
-        if field.signed {
-            is_within(field, magnitude(count))
-        } else {
-            false
-        }
-    } else {
-        is_within(field, magnitude(count))
-    }
+    (field.signed || !below) && (field.least..=field.most).contains(&magnitude(count))
 }
 
-// The count that the field's bits from `at` on stand for.
-fn read_count(field: Field, bits: &[u8], at: usize) -> i64
-    requires { field.width < 64 }
-    ensures { result ≡ count_of field (take field.width (drop at bits.now)) }
-{
-    if field.signed {
-        take_signed(bits, at, field.width)
-    } else {
-        take_number(bits, at, field.width) as i64
+impl Field {
+    // The count that the field's bits from `at` on stand for.
+    fn read(self, bits: &[u8], at: usize) -> i64
+        requires { self.width < 64 }
+        ensures { result ≡ count_of self (take self.width (drop at bits.now)) }
+    {
+        if self.signed {
+            take_signed(bits, at, self.width)
+        } else {
+            take_number(bits, at, self.width) as i64
+        }
+    }
+
+    // The bits of a count that is in range, from `at` on; the other bytes stay.
+    fn write(self, count: i64, bits: &mut [u8], at: usize)
+        requires { (in_range self count ≡ true) × (usable self ≡ true) × (at + self.width ≤ length bits.old) }
+        ensures { bits.new ≡ sets bits.old at (bits_for self count) }
+    {
+        if self.signed {
+            put_signed(bits, at, self.width, count).unwrap();
+        } else {
+            put_number(bits, at, self.width, magnitude(count)).unwrap();
+        }
     }
 }
 
@@ -52,12 +48,9 @@ pub(crate) fn read_counts(table: Table, bits: &[u8], from: usize, counts: &mut [
     ensures { counts.new ≡ counts_in (fields_in table) (drop from bits.now) }
 {
     let mut at = from;
-    let mut k: usize = 0;
-    while k < counts.len() {
-        let field = field_at(table, k);
-        counts[k] = read_count(field, bits, at);
+    for (k, field) in fields_of(table).iter().enumerate() {
+        counts[k] = field.read(bits, at);
         at += field.width;
-        k += 1;
     }
 }
 
@@ -67,28 +60,13 @@ pub(crate) fn first_out(table: Table, from: usize, counts: &[i64]) -> usize
     ensures { result ≡ first_out from (fields_in table) counts.now }
 {
     let mut at = from;
-    let mut k: usize = 0;
-    while k < counts.len() {
-        let field = field_at(table, k);
-        if !in_range(field, counts[k]) {
+    for (field, count) in fields_of(table).iter().zip(counts) {
+        if !in_range(*field, *count) {
             return at + 1;
         }
         at += field.width;
-        k += 1;
     }
     0
-}
-
-// The bits of a count that is in range, from `at` on; the other bytes stay.
-fn write_count(field: Field, count: i64, bits: &mut [u8], at: usize)
-    requires { (in_range field count ≡ true) × (usable field ≡ true) × (at + field.width ≤ length bits.old) }
-    ensures { bits.new ≡ sets bits.old at (bits_for field count) }
-{
-    if field.signed {
-        put_signed(bits, at, field.width, count).unwrap();
-    } else {
-        put_number(bits, at, field.width, magnitude(count)).unwrap();
-    }
 }
 
 // The bits of counts that are in range, from `from` on; the other bytes stay.
@@ -100,11 +78,8 @@ pub(crate) fn write_counts(table: Table, counts: &[i64], bits: &mut [u8], from: 
         ++ drop (from + bit_count (fields_in table)) bits.old) }
 {
     let mut at = from;
-    let mut k: usize = 0;
-    while k < counts.len() {
-        let field = field_at(table, k);
-        write_count(field, counts[k], bits, at);
+    for (field, count) in fields_of(table).iter().zip(counts) {
+        field.write(*count, bits, at);
         at += field.width;
-        k += 1;
     }
 }

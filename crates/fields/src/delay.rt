@@ -2,19 +2,15 @@
 ghost use Rattle.std.specs.Prelude.{◌≡◌};
 ghost use Rattle.fields.specs.Delay.{delay_of};
 
-// What a count of tgd, iscp or iscd says: that no delay is available, or the delay.
-#[derive(Clone, Copy)]
-pub enum Delay {
-    Absent,
-    Is(i64),
-}
+// The count that means that no delay is available.
+const NOT_AVAILABLE: i64 = -4096;
 
-// -4096 means not available; every other count is the delay.
-pub fn delay_of(count: i64) -> Delay
+// What a count of tgd, iscp or iscd says: -4096, that no delay is available; every other count is the delay.
+pub fn delay_of(count: i64) -> Option<i64>
     ensures { result ≡ delay_of count }
 {
-    if count == -4096 {
-        return Delay::Absent;
+    if count == NOT_AVAILABLE {
+        return None;
     }
-    Delay::Is(count)
+    Some(count)
 }

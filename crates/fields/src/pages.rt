@@ -1,10 +1,9 @@
 // The pages of subframe 3: 250 bits taken as a record, and put back.
-ghost use Rattle.std.specs.Prelude.{◌≡◌, ◌++◌, ◌+◌, ◌<◌, pos, length, drop, replicate};
+ghost use Rattle.std.specs.Prelude.{◌≡◌, ◌++◌, ◌+◌, ◌≤◌, ◌<◌, length, drop};
 ghost use Rattle.words.specs.Bits.{bits_of};
+ghost use Rattle.words.specs.Refusal.{Done};
 ghost use Rattle.fields.specs.Table.{fields_in, bit_count};
-ghost use Rattle.fields.specs.Counts.{first_out};
-ghost use Rattle.fields.specs.declared.pages.Kind.TheVariants.{Bare};
-ghost use Rattle.fields.specs.Pages.{PAGE_BITS, HEAD_BITS, BODY_BITS, PAGE_COUNTS, prn_in, number_in, kind_of, table_of, page_fields, counts_answer3, range_answer, page_answer, record_of, page_taken, is_own, fields_answer3, page_from, parts_answer, parts_bytes, put_page_answer, put_page_bytes};
+ghost use Rattle.fields.specs.Pages.{PAGE_BITS, HEAD_BITS, BODY_BITS, PAGE_COUNTS, prn_in, number_in, kind_of, table_of, page_fields, counts_answer3, range_answer, page_answer, record_of, page_taken, is_own, fields_answer3, page_from, used_counts, used_bits, put_page_answer, put_page_bytes};
 
 use super::counts::{first_out, read_counts, write_counts};
 use super::table::{Table, bit_count, field_count};
@@ -65,7 +64,7 @@ pub const TEXT_PAGE: usize = 0;
 pub const TEXT: usize = 1;
 
 // What kind of record a page is: page 1, page 6, or bare bits.
-#[derive(Clone, Copy)]
+#[derive(Clone, Copy, PartialEq, Eq, Debug)]
 pub enum Kind {
     One,
     Six,
@@ -87,23 +86,48 @@ pub struct Page {
 fn kind_of(number: u8) -> Kind
     ensures { result ≡ kind_of number }
 {
-    if number == 1 {
-        return Kind::One;
+    match number {
+        1 => Kind::One,
+        6 => Kind::Six,
+        _ => Kind::Bare,
     }
-    if number == 6 {
-        return Kind::Six;
-    }
-    Kind::Bare
 }
 
-// Its table.
-fn table_of(kind: Kind) -> Table
-    ensures { result ≡ table_of kind }
-{
-    match kind {
-        Kind::One => Table::Page1,
-        Kind::Six => Table::Page6,
-        Kind::Bare => Table::NoFields,
+impl Kind {
+    // The table of its fields.
+    fn table(self) -> Table
+        ensures { result ≡ table_of self }
+    {
+        match self {
+            Kind::One => Table::Page1,
+            Kind::Six => Table::Page6,
+            Kind::Bare => Table::NoFields,
+        }
+    }
+
+    // How many counts its records use; a record has room for them.
+    fn field_count(self) -> usize
+        ensures { (result ≡ length (page_fields self)) × (result ≤ PAGE_COUNTS) }
+    {
+        field_count(self.table())
+    }
+
+    // How many bits those take; the body has room for them.
+    fn bit_count(self) -> usize
+        ensures { (result ≡ bit_count (page_fields self)) × (result ≤ BODY_BITS) }
+    {
+        bit_count(self.table())
+    }
+
+    // The page number is the record's own; pages carried as bits have those up to 63 but 1 and 6.
+    fn is_own(self, number: u8) -> bool
+        ensures { result ≡ is_own self number }
+    {
+        match self {
+            Kind::One => number == 1,
+            Kind::Six => number == 6,
+            Kind::Bare => number <= LAST_PAGE && !matches!(number, 1 | 6),
+        }
     }
 }
 
@@ -123,29 +147,18 @@ fn number_in(bits: &[u8]) -> u8
 
 // ---- taking
 
-// Counts that are not used.
-fn zero_counts() -> [i64; 30]
-    ensures { result ≡ replicate PAGE_COUNTS (pos 0) }
-{
-    [0i64; 30]
-}
-
-// Bits that are not used.
-fn zero_bits() -> [u8; 236]
-    ensures { result ≡ replicate BODY_BITS 0 }
-{
-    [0u8; 236]
-}
-
 // The counts of a page's fields, and zeros behind them.
 fn counts_of(kind: Kind, bits: &[u8]) -> [i64; 30]
     requires { length bits.now ≡ PAGE_BITS }
     ensures { result ≡ (record_of kind bits.now).counts }
 {
-    let table = table_of(kind);
-    let count = field_count(table);
-    let mut counts = zero_counts();
-    read_counts(table, bits, HEAD_BITS, &mut counts[..count]);
+    let mut counts = [0; 30];
+    read_counts(
+        kind.table(),
+        bits,
+        HEAD_BITS,
+        &mut counts[..kind.field_count()],
+    );
     counts
 }
 
@@ -154,8 +167,8 @@ fn carried_of(kind: Kind, bits: &[u8]) -> [u8; 236]
     requires { length bits.now ≡ PAGE_BITS }
     ensures { result ≡ (record_of kind bits.now).bits }
 {
-    let end = HEAD_BITS + bit_count(table_of(kind));
-    let mut carried = zero_bits();
+    let end = HEAD_BITS + kind.bit_count();
+    let mut carried = [0; 236];
     carried[..PAGE_BITS - end].copy_from_slice(&bits[end..]);
     carried
 }
@@ -193,8 +206,7 @@ fn judge_fields(bits: &[u8]) -> Result<(), Refusal>
 {
     let kind = kind_of(number_in(bits));
     let counts = counts_of(kind, bits);
-    let table = table_of(kind);
-    judge_counts(table, &counts[..field_count(table)])
+    judge_counts(kind.table(), &counts[..kind.field_count()])
 }
 
 // Judges 250 page bits: refused 1, 2, then 9 at the first bit of the first field out of its range.
@@ -221,39 +233,31 @@ pub fn take_page(bits: &[u8]) -> Result<Page, Refusal>
 
 // ---- putting
 
-// A number that pages carried as bits have: up to 63, and neither 1 nor 6.
-fn is_bare(number: u8) -> bool
-    ensures { result ≡ is_own Bare number }
-{
-    if LAST_PAGE < number {
-        return false;
+impl Page {
+    // The counts that its kind uses.
+    fn used_counts(&self) -> &[i64]
+        ensures { (result.now ≡ used_counts self.now) × (length result.now ≡ length (page_fields self.now.kind)) }
+    {
+        &self.counts[..self.kind.field_count()]
     }
-    if number == 1 {
-        return false;
-    }
-    number != 6
-}
 
-// The page number is the record's own.
-fn is_own(kind: Kind, number: u8) -> bool
-    ensures { result ≡ is_own kind number }
-{
-    match kind {
-        Kind::One => number == 1,
-        Kind::Six => number == 6,
-        Kind::Bare => is_bare(number),
+    // The bits that its kind uses.
+    fn used_bits(&self) -> &[u8]
+        ensures { (result.now ≡ used_bits self.now)
+            × (HEAD_BITS + bit_count (page_fields self.now.kind) + length result.now ≡ PAGE_BITS) }
+    {
+        &self.bits[..BODY_BITS - self.kind.bit_count()]
     }
 }
 
 // Judges the page number and the counts of a record: 9.
-fn judge_record(kind: Kind, number: u8, counts: &[i64]) -> Result<(), Refusal>
-    requires { length counts.now ≡ length (page_fields kind) }
-    ensures { result ≡ fields_answer3 kind number counts.now }
+fn judge_record(page: &Page) -> Result<(), Refusal>
+    ensures { result ≡ fields_answer3 page.now.kind page.now.number (used_counts page.now) }
 {
-    if !is_own(kind, number) {
+    if !page.kind.is_own(page.number) {
         return Err(Rule::Field3.at(NUMBER_BIT));
     }
-    judge_counts(table_of(kind), counts)
+    judge_counts(page.kind.table(), page.used_counts())
 }
 
 // PRN and a page number of six bits, before the body.
@@ -266,40 +270,13 @@ fn write_head(prn: u8, number: u8, bits: &mut [u8])
 }
 
 // The page bits of a record that is not refused.
-fn write_page(prn: u8, number: u8, table: Table, counts: &[i64], carried: &[u8], bits: &mut [u8])
-    requires { (length counts.now ≡ length (fields_in table)) × (length bits.old ≡ PAGE_BITS)
-        × (HEAD_BITS + bit_count (fields_in table) + length carried.now ≡ PAGE_BITS)
-        × (number < 64) × (first_out HEAD_BITS (fields_in table) counts.now ≡ 0) }
-    ensures { bits.new ≡ page_from prn number (fields_in table) counts.now carried.now }
+fn write_page(page: &Page, bits: &mut [u8])
+    requires { (fields_answer3 page.now.kind page.now.number (used_counts page.now) ≡ Done) × (length bits.old ≡ PAGE_BITS) }
+    ensures { bits.new ≡ page_from page.now.prn page.now.number (page_fields page.now.kind) (used_counts page.now) (used_bits page.now) }
 {
-    write_head(prn, number, bits);
-    write_counts(table, counts, bits, HEAD_BITS);
-    bits[HEAD_BITS + bit_count(table)..].copy_from_slice(carried);
-}
-
-// Puts a record, as put_page does, from the counts and the bits that its kind uses.
-fn put_parts(
-    prn: u8,
-    number: u8,
-    kind: Kind,
-    counts: &[i64],
-    carried: &[u8],
-    bits: &mut [u8],
-) -> Result<(), Refusal>
-    requires { (length counts.now ≡ length (page_fields kind)) × (HEAD_BITS + bit_count (page_fields kind) + length carried.now ≡ PAGE_BITS) }
-    ensures { (result ≡ parts_answer kind number counts.now carried.now bits.old)
-        × (bits.new ≡ parts_bytes prn kind number counts.now carried.now bits.old) }
-{
-    if bits.len() != PAGE_BITS {
-        return Err(Rule::Length.at(0));
-    }
-    let bad = first_not_bit(carried);
-    if bad != carried.len() {
-        return Err(Rule::NotABit.at(bad));
-    }
-    judge_record(kind, number, counts)?;
-    write_page(prn, number, table_of(kind), counts, carried, bits);
-    Ok(())
+    write_head(page.prn, page.number, bits);
+    write_counts(page.kind.table(), page.used_counts(), bits, HEAD_BITS);
+    bits[HEAD_BITS + page.kind.bit_count()..].copy_from_slice(page.used_bits());
 }
 
 // Puts a record into 250 bytes; refused 1, 2 at the first of its bits that is neither 0 nor 1, then 9 at 9 for a page number that is
@@ -307,18 +284,15 @@ fn put_parts(
 pub fn put_page(page: Page, bits: &mut [u8]) -> Result<(), Refusal>
     ensures { (result ≡ put_page_answer page bits.old) × (bits.new ≡ put_page_bytes page bits.old) }
 {
-    let kind = page.kind;
-    let table = table_of(kind);
-    let counts = page.counts;
-    let carried = page.bits;
-    let count = field_count(table);
-    let rest = BODY_BITS - bit_count(table);
-    put_parts(
-        page.prn,
-        page.number,
-        kind,
-        &counts[..count],
-        &carried[..rest],
-        bits,
-    )
+    if bits.len() != PAGE_BITS {
+        return Err(Rule::Length.at(0));
+    }
+    let carried = page.used_bits();
+    let bad = first_not_bit(carried);
+    if bad != carried.len() {
+        return Err(Rule::NotABit.at(bad));
+    }
+    judge_record(&page)?;
+    write_page(&page, bits);
+    Ok(())
 }

@@ -1,6 +1,6 @@
 // The functions of `fields::table`, `in_range` of `fields::counts` and `delay_of` of `fields::delay`.
 use fields::counts::in_range;
-use fields::delay::{Delay, delay_of};
+use fields::delay::delay_of;
 use fields::pages::{DN, TEXT, TEXT_PAGE, TOT};
 use fields::subframe2::{ECC, ISF, ITOW, TGD, TOE};
 use fields::table::{Field, Table, bit_count, field_at, field_count};
@@ -157,41 +157,24 @@ pub(crate) fn odd_ranges() {
     );
 }
 
-fn is_absent(delay: Delay) -> bool {
-    match delay {
-        Delay::Absent => true,
-        Delay::Is(_) => false,
-    }
-}
-
-fn is_delay(delay: Delay, count: i64) -> bool {
-    match delay {
-        Delay::Absent => false,
-        Delay::Is(n) => n == count,
-    }
-}
-
 pub(crate) fn delays() {
-    expected(b"delay_of -4096: not available", is_absent(delay_of(-4096)));
-    expected(b"delay_of -4095: a delay", is_delay(delay_of(-4095), -4095));
+    expected(b"delay_of -4096: not available", delay_of(-4096) == None);
+    expected(b"delay_of -4095: a delay", delay_of(-4095) == Some(-4095));
     expected(
         b"delay_of -4097: that number",
-        is_delay(delay_of(-4097), -4097),
+        delay_of(-4097) == Some(-4097),
     );
-    expected(
-        b"delay_of 4096: that number",
-        is_delay(delay_of(4096), 4096),
-    );
+    expected(b"delay_of 4096: that number", delay_of(4096) == Some(4096));
     expected(
         b"delay_of 0: no delay at all, which is one",
-        is_delay(delay_of(0), 0),
+        delay_of(0) == Some(0),
     );
     expected(
         b"delay_of the least: that number",
-        is_delay(delay_of(LEAST), LEAST),
+        delay_of(LEAST) == Some(LEAST),
     );
     expected(
         b"delay_of the most: that number",
-        is_delay(delay_of(MOST), MOST),
+        delay_of(MOST) == Some(MOST),
     );
 }

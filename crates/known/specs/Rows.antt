@@ -1,7 +1,7 @@
 -- Rows of known results (document 01, "Known results"). What is given and what is expected are lists of numbers, so that all rows have
 -- one type: the number and place of an answer by the table "Numbers given on refusal", 0 and 0 where nothing is refused, and the values.
 -- Assumes nothing.
-use Rattle.std.specs.Prelude.{ℕ, ◌-◌, List, [], ◌∷◌, ◌++◌, map, replicate, ℤ, pos, slice_index_or, slice_set}
+use Rattle.std.specs.Prelude.{ℕ, ◌-◌, List, [], ◌∷◌, ◌++◌, map, replicate, ℤ, pos, slice_index_or, slice_set, Option, None, Some}
 use Prim.Native.String.{String}
 use Rattle.words.specs.Crc.{check_of}
 use Rattle.words.specs.Refusal.{number_of, place_of}
@@ -13,8 +13,6 @@ use Rattle.parity.specs.Order.{place_in_order}
 use Rattle.parity.specs.declared.order.Place.{Place}
 use Rattle.fields.specs.Delay.{delay_of}
 use Rattle.fields.specs.Subframe2.{BITS_2, COUNTS_2, bits2, counts_judged, fields_read}
-use Rattle.fields.specs.declared.delay.Delay.{Delay}
-use Rattle.fields.specs.declared.delay.Delay.TheVariants.{Absent, Is}
 use Rattle.fields.specs.declared.subframe2.Fields.{Fields}
 use Rattle.sheets.specs.List.{sheet_names, position_in}
 use Rattle.sheets.specs.Sheet.{sheet_read}
@@ -103,9 +101,9 @@ abbrev pub read_count : String → ℕ → List ℤ
 read_count name n = count_numbers name (fields_read (bits2 (zero_but_count name n)))
 
 -- what a count of tgd says: not available, or this value
-abbrev pub delay_numbers : Delay → List ℤ
-delay_numbers Absent = []
-delay_numbers (Is z) = z ∷ []
+abbrev pub delay_numbers : Option ℤ → List ℤ
+delay_numbers None = []
+delay_numbers (Some z) = z ∷ []
 
 -- asking a count of tgd (`fields::delay::delay_of`)
 abbrev pub delay : ℤ → List ℤ

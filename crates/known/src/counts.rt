@@ -1,7 +1,7 @@
 // Counts of subframe 2.
 use super::tally::{Tally, with_result};
 use super::text::{Text, answer_text, text_of, with_number, with_part};
-use fields::delay::{Delay, delay_of};
+use fields::delay::delay_of;
 use fields::subframe2::{ITOW, TOE, judge_counts};
 use std::num::wrapping_add_u64;
 use words::bits::magnitude;
@@ -48,8 +48,8 @@ fn with_signed(text: Text, number: i64) -> Text {
 
 fn delay_text(count: i64) -> Text {
     match delay_of(count) {
-        Delay::Absent => text_of(b"not available"),
-        Delay::Is(value) => with_signed(text_of(b""), value),
+        None => text_of(b"not available"),
+        Some(value) => with_signed(text_of(b""), value),
     }
 }
 

@@ -1,7 +1,7 @@
 -- What the code's way from a floating number to its count finds: the integer that a term times 2^k is lies where it can be cut to an i64, and
 -- is cut to the count; so each way out tells the count, or that there is none.
 -- Assumes nothing.
-use Rattle.std.proofs.Common.{◌≡◌, ℕ, ◌+◌, ◌-◌, ◌*◌, ◌^◌, ◌<◌, ◌≤◌, Bool, true, false, not, ◌||◌, T, ℤ, pos, negsuc, nat_abs, sym, ap, ◌∙◌, subst, true≢false, mul-lt-mul_of_pos_right, arith, le→leb, lt→ltb, pow_pos, pow_mono}
+use Rattle.std.proofs.Common.{◌≡◌, ℕ, ◌+◌, ◌-◌, ◌*◌, ◌^◌, ◌<◌, ◌≤◌, Bool, true, false, not, ◌||◌, T, ℤ, pos, negsuc, nat_abs, sym, ap, ◌∙◌, subst, true≢false, mul-lt-mul_of_pos_right, arith, le→leb, lt→ltb, pow_pos, pow_mono, None, Some}
 use lib.Ieee.{Float, nan, inf, fin, binary64, up, down, mul, of_int, to_signed, in_float, le, lt, eq, fits, is_nan, to_bits}
 use lib.Ieee.Exact.{HasValue}
 use lib.Ieee.Fits.{down_pos}
@@ -10,7 +10,6 @@ use Rattle.fields.specs.Counts.{in_range}
 use Rattle.clock.specs.Clock.{negative, term_of, count_in, signed_field}
 use Rattle.clock.specs.Laws.OneValue.{same_bits}
 use Rattle.clock.specs.Laws.Terms.{term_fits, range_53, term_back, no_count}
-use Rattle.clock.specs.declared.clock.Count.TheVariants.{Is, Not}
 use Rattle.clock.proofs.clock.Powers.{power, int_exact, up_steps}
 
 -- ---- signed fields
@@ -80,12 +79,18 @@ pub record Scaled (k w : ℕ) (x y : Float) : Type 0 where
   pub held : T (fits binary64 x)
   pub is : y ≡ mul binary64 x (power (1023 + k))
 
+-- the y that the code makes
+pub scaled : {k w : ℕ} {x p : Float} → (k ≤ 1000) × (0 < w) × (w ≤ 53) → T (fits binary64 x) → p ≡ power (1023 + k)
+    → Scaled k w x (mul binary64 x p)
+scaled {k} {w} {x} few held e =
+    record { step = few.0; some = few.1; few = few.2; held = held; is = ap (mul binary64 x) e }
+
 module _ {k w : ℕ} {x y : Float} (h : Scaled k w x y) where
   small : (signed_field w).most < 2 ^ 52
   small = narrow w h.some h.few
 
   -- nothing but a term has a count
-  none : ((z : ℤ) → in_range (signed_field w) z ≡ true → x ≡ term_of k z → ⊥) → count_in k (signed_field w) x ≡ Not
+  none : ((z : ℤ) → in_range (signed_field w) z ≡ true → x ≡ term_of k z → ⊥) → count_in k (signed_field w) x ≡ None
   none so = no_count k (signed_field w) x (omega (arith, h.step)) small h.held so
 
   digits : (z : ℤ) → in_range (signed_field w) z ≡ true → nat_abs z < 2 ^ 53
@@ -101,27 +106,28 @@ module _ {k w : ℕ} {x y : Float} (h : Scaled k w x y) where
   cut_is z r i = ap (to_signed 63) (at_count z r i) ∙ int_back z (digits z r)
 
   -- y is too low
-  pub out_low : le (fin true 1 (pos 63)) y ≡ false → count_in k (signed_field w) x ≡ Not
+  pub out_low : le (fin true 1 (pos 63)) y ≡ false → count_in k (signed_field w) x ≡ None
   out_low t =
       none (λ z r i. subst T (ap (le (fin true 1 (pos 63))) (sym (at_count z r i)) ∙ t) (int_within z (digits z r)).0)
 
   -- y is too high
-  pub out_high : lt y (fin false 1 (pos 63)) ≡ false → count_in k (signed_field w) x ≡ Not
+  pub out_high : lt y (fin false 1 (pos 63)) ≡ false → count_in k (signed_field w) x ≡ None
   out_high t =
       none (λ z r i. subst T (ap (λ (v : Float). lt v (fin false 1 (pos 63))) (sym (at_count z r i)) ∙ t) (int_within z (digits z r)).1)
 
-  -- the i64 is not in the field's width
-  pub out_width : in_range (signed_field w) (to_signed 63 y) ≡ false → count_in k (signed_field w) x ≡ Not
-  out_width t = none (λ z r i. true≢false (sym r ∙ ap (in_range (signed_field w)) (sym (cut_is z r i)) ∙ t))
+  module _ (n : ℤ) (cut : n ≡ to_signed 63 y) where
+    -- the i64 is not in the field's width
+    pub out_width : in_range (signed_field w) n ≡ false → count_in k (signed_field w) x ≡ None
+    out_width t = none (λ z r i. true≢false (sym r ∙ ap (in_range (signed_field w)) (sym (cut ∙ cut_is z r i)) ∙ t))
 
-  -- its term is not x
-  pub out_bits : (to_bits binary64 (term_of k (to_signed 63 y)) ≡ to_bits binary64 x → ⊥) → count_in k (signed_field w) x ≡ Not
-  out_bits t =
-      none (λ z r i. t (ap (λ (v : ℤ). to_bits binary64 (term_of k v)) (cut_is z r i) ∙ ap (to_bits binary64) (sym i)))
+    -- its term is not x
+    pub out_bits : (to_bits binary64 (term_of k n) ≡ to_bits binary64 x → ⊥) → count_in k (signed_field w) x ≡ None
+    out_bits t =
+        none (λ z r i. t (ap (λ (v : ℤ). to_bits binary64 (term_of k v)) (cut ∙ cut_is z r i) ∙ ap (to_bits binary64) (sym i)))
 
   -- its term is x
   pub in_bits : (z : ℤ) → in_range (signed_field w) z ≡ true → to_bits binary64 (term_of k z) ≡ to_bits binary64 x
-      → count_in k (signed_field w) x ≡ Is z
+      → count_in k (signed_field w) x ≡ Some z
   in_bits z r t =
       ap (count_in k (signed_field w)) (sym (same_bits binary64 (term_of k z) x (term_fits k z) h.held t))
       ∙ term_back k (signed_field w) z (omega (arith, h.step)) small r

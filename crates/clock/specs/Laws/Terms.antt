@@ -1,6 +1,6 @@
 -- A count and its term, in steps of 2^-k: the term is exact, the only one, and taken back it gives its count; what gives a count is its term.
 -- Assumes nothing.
-use Rattle.std.specs.Prelude.{◌≡◌, ℕ, zero, suc, ◌+◌, ◌-◌, ◌*◌, ◌/◌, ◌%◌, ◌^◌, ◌<◌, ◌≤◌, Bool, true, false, cond, not, ◌&&◌, T, ℤ, pos, negsuc, ◌==◌, ◌≢◌, unsigned_abs, refl, Float}
+use Rattle.std.specs.Prelude.{◌≡◌, ℕ, zero, suc, ◌+◌, ◌-◌, ◌*◌, ◌/◌, ◌%◌, ◌^◌, ◌<◌, ◌≤◌, Bool, true, false, cond, not, ◌&&◌, T, ℤ, pos, negsuc, ◌==◌, ◌≢◌, unsigned_abs, refl, Float, Option, None, Some}
 use Rattle.std.proofs.Common.{sym, ap, ◌∙◌, subst, mul_assoc, mul-div_cancel, lt_of_lt_of_le, div-add-mod', add-zero, arith, pow-add, pow_pos, pow_mono, shl_lt, eqb-true, ne_eqb}
 use Rattle.std.proofs.Math.Bool.{and-eq-true_iff}
 use Rattle.std.proofs.Math.Nat.{mul-mod_left}
@@ -14,8 +14,6 @@ use Rattle.fields.specs.Laws.Counts.{range_most}
 use Rattle.fields.specs.declared.table.Field.{Field}
 use Rattle.clock.specs.Clock.{negative, Exactly, term_of, with_sign, whole_in, count_in}
 use Rattle.clock.specs.Laws.OneValue.{one_value}
-use Rattle.clock.specs.declared.clock.Count.{Count}
-use Rattle.clock.specs.declared.clock.Count.TheVariants.{Is, Not}
 
 -- ---- a count's term
 
@@ -58,11 +56,11 @@ range_53 f z N h =
 -- ---- a term taken back
 
 -- a count of its sign and size
-whole_of : (f : Field) (z : ℤ) → in_range f z ≡ true → whole_in f (negative z) 0 (unsigned_abs z) ≡ Is z
-whole_of f (pos n) h = ap (λ (b : Bool). cond b (Is (pos n)) Not) h
+whole_of : (f : Field) (z : ℤ) → in_range f z ≡ true → whole_in f (negative z) 0 (unsigned_abs z) ≡ Some z
+whole_of f (pos n) h = ap (λ (b : Bool). cond b (Some (pos n)) None) h
 whole_of f (negsuc n) h =
-    ap (λ (b : Bool). cond (not b && in_range f (negsuc n)) (Is (negsuc n)) Not) (ne_eqb (suc n) 0 (λ e. omega arith))
-    ∙ ap (λ (b : Bool). cond b (Is (negsuc n)) Not) h
+    ap (λ (b : Bool). cond (not b && in_range f (negsuc n)) (Some (negsuc n)) None) (ne_eqb (suc n) 0 (λ e. omega arith))
+    ∙ ap (λ (b : Bool). cond b (Some (negsuc n)) None) h
 
 -- what is z times 2 ^ -k is z steps and no part of one
 steps_of : (k : ℕ) (f : Field) (x : Float) (s : Bool) (n : ℕ) → HasValue x s n (2 ^ k) → count_in k f x ≡ whole_in f s 0 n
@@ -76,11 +74,11 @@ steps_of k f (fin t m e) s n v =
     ∙ ap (λ (q : ℕ). whole_in f s 0 q) (mul-div_cancel n (down_pos e))
 
 -- what is exactly a count's product gives the count
-pub exact_back : (k : ℕ) (f : Field) (z : ℤ) (x : Float) → in_range f z ≡ true → Exactly k z x → count_in k f x ≡ Is z
+pub exact_back : (k : ℕ) (f : Field) (z : ℤ) (x : Float) → in_range f z ≡ true → Exactly k z x → count_in k f x ≡ Some z
 exact_back k f z x h v = steps_of k f x (negative z) (unsigned_abs z) v ∙ whole_of f z h
 
 -- so a term gives its count
-pub term_back : (k : ℕ) (f : Field) (z : ℤ) → k ≤ 1074 → f.most < 2 ^ 52 → in_range f z ≡ true → count_in k f (term_of k z) ≡ Is z
+pub term_back : (k : ℕ) (f : Field) (z : ℤ) → k ≤ 1074 → f.most < 2 ^ 52 → in_range f z ≡ true → count_in k f (term_of k z) ≡ Some z
 term_back k f z K N h = exact_back k f z (term_of k z) h (term_exact k z (range_53 f z N h) K)
 
 -- ---- what gives a count
@@ -93,7 +91,7 @@ record Says (f : Field) (s : Bool) (r q : ℕ) (z : ℤ) : Type 0 where
   fine : in_range f z ≡ true
 
 -- a count that was picked
-picked : (b : Bool) (w z : ℤ) → cond b (Is w) Not ≡ Is z → (b ≡ true) × (w ≡ z)
+picked : (b : Bool) (w z : ℤ) → cond b (Some w) None ≡ Some z → (b ≡ true) × (w ≡ z)
 picked true w z e = (refl, cc)
 picked false w z e = let no_count : ◌≡◌ {A = ℕ} 0 1 = cc in absurd (omega arith)
 
@@ -107,7 +105,7 @@ size_is false q = refl
 size_is true zero = refl
 size_is true (suc q) = refl
 
-says : (f : Field) (s : Bool) (r q : ℕ) (z : ℤ) → whole_in f s r q ≡ Is z → Says f s r q z
+says : (f : Field) (s : Bool) (r q : ℕ) (z : ℤ) → whole_in f s r q ≡ Some z → Says f s r q z
 says f s r q z e =
     let some = not (s && q == 0) in
     let fine = in_range f (with_sign s q) in
@@ -123,7 +121,7 @@ says f s r q z e =
     })
 
 -- what gives a count is exactly its product, and the count is in range
-pub count_exact : (k : ℕ) (f : Field) (z : ℤ) (x : Float) → count_in k f x ≡ Is z → Exactly k z x × (in_range f z ≡ true)
+pub count_exact : (k : ℕ) (f : Field) (z : ℤ) (x : Float) → count_in k f x ≡ Some z → Exactly k z x × (in_range f z ≡ true)
 unfolding count_in
 count_exact k f z nan e = let no_count : ◌≡◌ {A = ℕ} 0 1 = cc in absurd (omega arith)
 count_exact k f z (inf s) e = let no_count : ◌≡◌ {A = ℕ} 0 1 = cc in absurd (omega arith)
@@ -141,16 +139,16 @@ count_exact k f z (fin s m g) e =
     )
 
 -- so it is the count's term
-pub only_counts : (k : ℕ) (f : Field) (z : ℤ) (x : Float) → k ≤ 1074 → f.most < 2 ^ 52 → T (fits binary64 x) → count_in k f x ≡ Is z
+pub only_counts : (k : ℕ) (f : Field) (z : ℤ) (x : Float) → k ≤ 1074 → f.most < 2 ^ 52 → T (fits binary64 x) → count_in k f x ≡ Some z
     → (x ≡ term_of k z) × (in_range f z ≡ true)
 only_counts k f z x K N F e =
     let w = count_exact k f z x e in (only_exact k z x (range_53 f z N w.1) K F w.0, w.1)
 
 -- and what is the term of no count in range gives none
 pub no_count : (k : ℕ) (f : Field) (x : Float) → k ≤ 1074 → f.most < 2 ^ 52 → T (fits binary64 x)
-    → ((z : ℤ) → in_range f z ≡ true → x ≢ term_of k z) → count_in k f x ≡ Not
+    → ((z : ℤ) → in_range f z ≡ true → x ≢ term_of k z) → count_in k f x ≡ None
 no_count k f x K N F none = go (count_in k f x) refl
   where
-    go : (r : Count) → count_in k f x ≡ r → count_in k f x ≡ Not
-    go (Is z) e = let w = only_counts k f z x K N F e in absurd (none z w.1 w.0)
-    go Not e = e
+    go : (r : Option ℤ) → count_in k f x ≡ r → count_in k f x ≡ None
+    go (Some z) e = let w = only_counts k f z x K N F e in absurd (none z w.1 w.0)
+    go None e = e

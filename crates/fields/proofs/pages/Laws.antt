@@ -9,20 +9,16 @@ use lib.ListN.{length, take, drop, replicate, length-append, length-drop, length
 use lib.Pow.{pow_mono}
 use lib.Seq.{take_at, drop_at, take_all, drop-drop}
 use Rattle.words.specs.Bits.{value_of, bits_of, number_bytes}
-use Rattle.words.specs.Refusal.{left_by, Answer, Done}
 use Rattle.words.specs.Laws.Digits.{length_bits}
-use Rattle.words.specs.declared.refusal.Refusal.{Refusal}
-use Rattle.fields.specs.Table.{fields_in, bit_count}
+use Rattle.fields.specs.Table.{bit_count}
 use Rattle.fields.specs.Counts.{bits_of_counts}
-use Rattle.fields.specs.Pages.{table_of, page_fields, page_counts, record_of, page_from}
-use Rattle.fields.specs.CountsBack.{length_counts, length_bits_of}
+use Rattle.fields.specs.Pages.{page_fields, page_counts, record_of, page_from}
+use Rattle.fields.specs.CountsBack.{length_bits_of}
 use Rattle.fields.specs.Laws.Counts.{value_below}
 use Rattle.fields.specs.Laws.Pages.{few_counts, few_bits}
 use Rattle.fields.proofs.counts.Laws.{number_put}
-use Rattle.fields.specs.declared.table.Table.{Table}
 use Rattle.fields.specs.declared.pages.Kind.{Kind}
 use Rattle.fields.specs.declared.table.Field.{Field}
-use Rattle.std.specs.Prelude.{Err}
 
 -- ---- taking
 
@@ -46,17 +42,6 @@ counts_are kind l n new zeros e f g =
     ap₂ (λ (x y : List ℤ). x ++ y) f
     (ap₂ (λ (k : ℕ) (x : List ℤ). drop k x) e g ∙ rest_same (pos 0) 30 (length (page_fields kind)) (few_counts kind))
 
--- which are as many as a record has
-pub length_record_counts : (kind : Kind) (l : List ℕ) (zs : List ℤ) → zs ≡ (record_of kind l).counts → length zs ≡ 30
-length_record_counts kind l zs e =
-    let zeros = replicate (30 - length (page_fields kind)) (pos 0) in
-    ap length e ∙ length-append (page_counts kind l) zeros
-    ∙ omega (arith, few_counts kind, length_counts (page_fields kind) (drop 14 l), length-replicate (30 - length (page_fields kind)) (pos 0))
-
--- the bits of a kind's fields, counted by its table
-pub kind_bits : (kind : Kind) (t : Table) (b : ℕ) → t ≡ table_of kind → b ≡ bit_count (fields_in t) → b ≡ bit_count (page_fields kind)
-kind_bits kind t b e f = f ∙ ap (λ (x : Table). bit_count (fields_in x)) e
-
 -- bits copied into the front of zeros
 pub carried_are : (kind : Kind) (l : List ℕ) (b : ℕ) (new zeros : List ℕ) → b ≡ bit_count (page_fields kind) → length l ≡ 250
     → new ≡ take (length l - (14 + b)) (drop (14 + b) l) → zeros ≡ replicate 236 0
@@ -71,13 +56,6 @@ carried_are kind l b new zeros e n f g =
     (ap (drop (250 - (14 + b))) g ∙ rest_same 0 236 (250 - (14 + b)) (omega arith) ∙ ap (λ (k : ℕ). replicate k 0) left)
 
 -- ---- putting
-
--- what is left by an answer
-pub left_done : (a : Answer) (out new l : List ℕ) → a ≡ Done → out ≡ new → out ≡ left_by a new l
-left_done a out new l e f = f ∙ ap (λ (x : Answer). left_by x new l) (sym e)
-
-pub left_refused : (a : Answer) (r : Refusal) (new l : List ℕ) → a ≡ Err r → l ≡ left_by a new l
-left_refused a r new l e = ap (λ (x : Answer). left_by x new l) (sym e)
 
 -- PRN and page number put before the body
 pub head_put : (l first second : List ℕ) (prn number : ℕ) → length l ≡ 250 → prn < 2 ^ 8 → number < 64

@@ -1,12 +1,12 @@
 -- Counts and their bits, field by field: one field, one step in a table, two tables, and what is in range.
 -- Assumes nothing.
 use Rattle.std.specs.Prelude.{◌≡◌, refl, Bool, true, false, cond, ◌&&◌, ◌||◌, ℕ, zero, suc, ◌+◌, ◌-◌, ◌^◌, ◌≤◌, ◌<◌, leb, eqb, ℤ, pos, negsuc, length, get_or, drop, set}
-use Rattle.std.proofs.Common.{sym, ◌∙◌, add-one, arith, length-append, length-take, drop_of_length-le, pow_mono, drop-cons, drop-drop, take_all, take_at, drop_at, length-take-le, leb-true, ne_eqb}
+use Rattle.std.proofs.Common.{sym, ◌∙◌, add-one, arith, length-append, length-take, drop_of_length-le, pow_mono, drop-drop, take_all, take_at, drop_at, length-take-le, leb-true, ne_eqb}
 use Rattle.std.proofs.Math.Path.{ap, ap₂}
 use Rattle.std.proofs.Math.Bool.{and-eq-true_iff}
 use mathlib.Core.List.{List, [], ◌∷◌, ◌++◌, append_assoc, append-nil}
 use Rattle.std.proofs.Math.Nat.{suc_inj}
-use Rattle.std.proofs.Math.ListN.{take}
+use Rattle.std.proofs.Math.ListN.{take, take-append-drop}
 use Rattle.std.proofs.lemmas.List.Edits.{sets, sets-eq}
 use Rattle.std.proofs.Math.Seq.{take-suc-set}
 use Rattle.std.specs.Int.Signed.{mag, non_neg}
@@ -16,7 +16,7 @@ use Rattle.words.specs.Laws.Digits.{value_lt, length_bits}
 use Rattle.words.specs.Laws.Signs.{holds_when}
 use Rattle.fields.specs.Table.{no_field, bit_count, usable}
 use Rattle.fields.specs.Counts.{count_of, counts_in, bits_for, bits_of_counts, in_range, AllInRange, first_out}
-use Rattle.fields.specs.Laws.Table.{usable_some, usable_few, usable_signed, usable_unsigned, open_at}
+use Rattle.fields.specs.Laws.Table.{usable_some, usable_few, usable_signed, usable_unsigned}
 use Rattle.fields.specs.declared.table.Field.{Field}
 
 -- ---- the number of the first w bits
@@ -99,55 +99,38 @@ pub not_out : (t : Bool) (a b : ℕ) → cond t a (b + 1) ≡ 0 → (t ≡ true)
 not_out true a b e = (refl, e)
 not_out false a b e = absurd (omega arith)
 
--- ---- one step in a table, as a loop takes it
+-- ---- the first of the fields and counts that are left, as a loop takes them
 
-module _ (fs : List Field) (k : ℕ) (h : k < length fs) where
-  counts_open : (zs : List ℤ) → k < length zs → drop k zs ≡ get_or zs k (pos 0) ∷ drop (k + 1) zs
-  counts_open zs g = rw add-one (drop-cons zs k (pos 0) g)
+-- a count read into its place
+pub counts_step : {f : Field} {fs gs : List Field} (left : gs ≡ f ∷ fs) (k at : ℕ) (l : List ℕ) (zs : List ℤ) (z : ℤ) → k < length zs
+    → z ≡ count_of f (take f.width (drop at l))
+    → take (k + 1) (set zs k z) ++ counts_in fs (drop (at + f.width) l) ≡ take k zs ++ counts_in gs (drop at l)
+unfolding counts_in
+counts_step {f} {fs} {gs} left k at l zs z h e =
+    ap₂ (λ (x : List ℤ) (y : List ℕ). x ++ counts_in fs y)
+    (ap (λ (n : ℕ). take n (set zs k z)) (add-one k) ∙ take-suc-set zs k z h) (sym (drop-drop f.width at l))
+    ∙ append_assoc (take k zs) (z ∷ []) (counts_in fs (drop f.width (drop at l)))
+    ∙ ap (λ (x : ℤ). take k zs ++ (x ∷ counts_in fs (drop f.width (drop at l)))) e
+    ∙ ap (λ (hs : List Field). take k zs ++ counts_in hs (drop at l)) (sym left)
 
-  out_step : (at : ℕ) (zs : List ℤ) → k < length zs
-      → first_out at (drop k fs) (drop k zs)
-      ≡ cond (in_range (get_or fs k no_field) (get_or zs k (pos 0)))
-      (first_out (at + (get_or fs k no_field).width) (drop (k + 1) fs) (drop (k + 1) zs)) (at + 1)
+module _ {f : Field} {fs gs : List Field} {z : ℤ} {zs ys : List ℤ} (left : gs ≡ f ∷ fs) (counts : ys ≡ z ∷ zs) (at : ℕ) where
+  out_first : first_out at gs ys ≡ cond (in_range f z) (first_out (at + f.width) fs zs) (at + 1)
   unfolding first_out
-  out_step at zs g = ap₂ (first_out at) (open_at fs k h) (counts_open zs g)
-
-  bits_of_step : (zs : List ℤ) → k < length zs
-      → bits_of_counts (drop k fs) (drop k zs)
-      ≡ bits_for (get_or fs k no_field) (get_or zs k (pos 0)) ++ bits_of_counts (drop (k + 1) fs) (drop (k + 1) zs)
-  unfolding bits_of_counts
-  bits_of_step zs g = ap₂ bits_of_counts (open_at fs k h) (counts_open zs g)
-
-  -- a count read into its place
-  pub counts_step : (l : List ℕ) (at : ℕ) (zs : List ℤ) (z : ℤ) → k < length zs
-      → z ≡ count_of (get_or fs k no_field) (take (get_or fs k no_field).width (drop at l))
-      → take (k + 1) (set zs k z) ++ counts_in (drop (k + 1) fs) (drop (at + (get_or fs k no_field).width) l)
-      ≡ take k zs ++ counts_in (drop k fs) (drop at l)
-  unfolding counts_in
-  counts_step l at zs z g e =
-      ap₂ (λ (x : List ℤ) (y : List ℕ). x ++ counts_in (drop (k + 1) fs) y)
-      (ap (λ (n : ℕ). take n (set zs k z)) (add-one k) ∙ take-suc-set zs k z g)
-      (sym (drop-drop (get_or fs k no_field).width at l))
-      ∙ append_assoc (take k zs) (z ∷ []) (counts_in (drop (k + 1) fs) (drop (get_or fs k no_field).width (drop at l)))
-      ∙ ap (λ (x : ℤ). take k zs ++ (x ∷ counts_in (drop (k + 1) fs) (drop (get_or fs k no_field).width (drop at l)))) e
-      ∙ ap (λ (gs : List Field). take k zs ++ counts_in gs (drop at l)) (sym (open_at fs k h))
+  out_first = ap₂ (first_out at) left counts
 
   -- a count found out of range, or in range
-  module _ (at : ℕ) (zs : List ℤ) (g : k < length zs) where
-    pub out_here : in_range (get_or fs k no_field) (get_or zs k (pos 0)) ≡ false → first_out at (drop k fs) (drop k zs) ≡ at + 1
-    out_here e = out_step at zs g ∙ rw e refl
+  pub out_here : in_range f z ≡ false → first_out at gs ys ≡ at + 1
+  out_here e = out_first ∙ rw e refl
 
-    pub out_later : in_range (get_or fs k no_field) (get_or zs k (pos 0)) ≡ true
-        → first_out at (drop k fs) (drop k zs) ≡ first_out (at + (get_or fs k no_field).width) (drop (k + 1) fs) (drop (k + 1) zs)
-    out_later e = out_step at zs g ∙ rw e refl
+  pub out_later : in_range f z ≡ true → first_out at gs ys ≡ first_out (at + f.width) fs zs
+  out_later e = out_first ∙ rw e refl
 
-    pub in_here : first_out at (drop k fs) (drop k zs) ≡ 0
-        → (in_range (get_or fs k no_field) (get_or zs k (pos 0)) ≡ true)
-        × (first_out (at + (get_or fs k no_field).width) (drop (k + 1) fs) (drop (k + 1) zs) ≡ 0)
-    in_here e =
-        not_out (in_range (get_or fs k no_field) (get_or zs k (pos 0)))
-        (first_out (at + (get_or fs k no_field).width) (drop (k + 1) fs) (drop (k + 1) zs)) at
-        (sym (out_step at zs g) ∙ e)
+  pub in_here : first_out at gs ys ≡ 0 → (in_range f z ≡ true) × (first_out (at + f.width) fs zs ≡ 0)
+  in_here e = not_out (in_range f z) (first_out (at + f.width) fs zs) at (sym out_first ∙ e)
+
+  pub bits_of_left : bits_of_counts gs ys ≡ bits_for f z ++ bits_of_counts fs zs
+  unfolding bits_of_counts
+  bits_of_left = ap₂ bits_of_counts left counts
 
 -- ---- one count written
 
@@ -177,18 +160,14 @@ module _ (row : List ℕ) (at : ℕ) (b : List ℕ) (w t : ℕ) (n : length b �
       ∙ append_assoc (take at row) b (rest ++ drop t row)
       ∙ ap (λ (x : List ℕ). take at row ++ x) (sym (append_assoc b rest (drop t row)))
 
--- the bits of the count k, put into their place
-pub write_step : (fs : List Field) (k : ℕ) → k < length fs → (row : List ℕ) (at t : ℕ) (zs : List ℤ) → k < length zs
-    → at + (get_or fs k no_field).width ≤ t → t ≤ length row
-    → take (at + (get_or fs k no_field).width) (sets row at (bits_for (get_or fs k no_field) (get_or zs k (pos 0))))
-    ++ (bits_of_counts (drop (k + 1) fs) (drop (k + 1) zs) ++ drop t (sets row at (bits_for (get_or fs k no_field) (get_or zs k (pos 0)))))
-    ≡ take at row ++ (bits_of_counts (drop k fs) (drop k zs) ++ drop t row)
-write_step fs k h row at t zs g inside long =
-    let f : Field = get_or fs k no_field in
-    let z : ℤ = get_or zs k (pos 0) in
-    put_step row at (bits_for f z) f.width t (length_bits f.width (unsigned_of f.width z)) inside long
-    (bits_of_counts (drop (k + 1) fs) (drop (k + 1) zs))
-    ∙ ap (λ (x : List ℕ). take at row ++ (x ++ drop t row)) (sym (bits_of_step fs k h zs g))
+-- the bits of the first count that is left, put into their place
+pub write_step : {f : Field} {fs gs : List Field} {z : ℤ} {zs ys : List ℤ} (left : gs ≡ f ∷ fs) (counts : ys ≡ z ∷ zs) (row : List ℕ) (at t : ℕ)
+    → at + f.width ≤ t → t ≤ length row
+    → take (at + f.width) (sets row at (bits_for f z)) ++ (bits_of_counts fs zs ++ drop t (sets row at (bits_for f z)))
+    ≡ take at row ++ (bits_of_counts gs ys ++ drop t row)
+write_step {f} {fs} {gs} {z} {zs} {ys} left counts row at t inside long =
+    put_step row at (bits_for f z) f.width t (length_bits f.width (unsigned_of f.width z)) inside long (bits_of_counts fs zs)
+    ∙ ap (λ (x : List ℕ). take at row ++ (x ++ drop t row)) (sym (bits_of_left left counts at))
 
 -- ---- the end of a table
 
@@ -197,13 +176,13 @@ pub counts_done : (fs : List Field) (l : List ℕ) (zs : List ℤ) (k : ℕ) →
 unfolding counts_in
 counts_done fs l zs k h g = rw (drop_of_length-le fs h, take_all k zs g, append-nil)
 
-pub out_done : (fs : List Field) (at k : ℕ) (zs : List ℤ) → length fs ≤ k → first_out at (drop k fs) zs ≡ 0
-unfolding first_out
-out_done fs at k zs h = rw (drop_of_length-le fs h) refl
-
-pub bits_of_done : (fs : List Field) (k : ℕ) (zs : List ℤ) → length fs ≤ k → bits_of_counts (drop k fs) zs ≡ []
-unfolding bits_of_counts
-bits_of_done fs k zs h = rw (drop_of_length-le fs h) refl
+-- nothing is left to write
+pub all_written : {gs : List Field} (ys : List ℤ) (row : List ℕ) (at t : ℕ) → gs ≡ [] → at + bit_count gs ≡ t
+    → take at row ++ (bits_of_counts gs ys ++ drop t row) ≡ row
+unfolding bits_of_counts bit_count
+all_written {gs} ys row at t g e =
+    let n : at ≡ t = omega (arith, ap bit_count g) in
+    rw (g, ← n) (take-append-drop at row)
 
 -- ---- two tables, one after the other
 

@@ -1,12 +1,10 @@
 -- The tables of fields: how many fields and bits, and that each row's bits hold its counts; a row of a table.
 -- Assumes nothing.
-use Rattle.std.specs.Prelude.{◌≡◌, refl, Bool, true, false, cond, ◌&&◌, List, [], ◌∷◌, ◌++◌, ℕ, zero, suc, ◌+◌, ◌-◌, ◌^◌, ◌≤◌, ◌<◌, ltb, eqb, length, get_or, drop, replicate}
-use Rattle.std.proofs.Common.{ap, ◌∙◌, add-one, arith, drop_of_length-le, drop-cons}
+use Rattle.std.specs.Prelude.{◌≡◌, refl, Bool, true, false, cond, ◌&&◌, List, [], ◌∷◌, ◌++◌, ℕ, ◌+◌, ◌-◌, ◌^◌, ◌≤◌, ◌<◌, ltb, eqb, length, get_or, drop}
+use Rattle.std.proofs.Common.{ap, add-one, arith, drop-cons}
 use Rattle.std.proofs.Math.Bool.{and-eq-true_iff}
-use Rattle.std.proofs.lemmas.List.{get_or-replicate}
-use Rattle.std.proofs.Math.ListN.{get_or-map}
 use borrow.Author.Tests.{ltb-true, eqb-true}
-use Rattle.fields.specs.Table.{NamedField, at_most, unsigned, subframe2_rows, page1_rows, page6_rows, fields_in, no_field, bit_count, usable, all_usable}
+use Rattle.fields.specs.Table.{subframe2_rows, page1_rows, page6_rows, fields_in, no_field, bit_count, usable, all_usable}
 use Rattle.fields.specs.declared.table.Field.{Field}
 use Rattle.fields.specs.declared.table.Table.{Table}
 use Rattle.fields.specs.declared.table.Table.TheVariants.{Subframe2, Page1, Page6, NoFields}
@@ -58,13 +56,6 @@ bits_most Page1 = omega (arith, bits_page1)
 bits_most Page6 = omega (arith, bits_page6)
 bits_most NoFields = omega (arith, bits_no_fields)
 
--- every field of page 6 but the first is a byte of text
-pub page6_text : (k : ℕ) → suc k < length (fields_in Page6) → get_or (fields_in Page6) (suc k) no_field ≡ (unsigned 8 "text").field
-unfolding fields_in page6_rows
-page6_text k h =
-    get_or-map (λ (row : NamedField). row.field) (replicate 29 (unsigned 8 "text")) k (at_most 0 0 "")
-    ∙ ap (λ (row : NamedField). row.field) (get_or-replicate 29 k (unsigned 8 "text") (at_most 0 0 "") (omega arith))
-
 -- ---- a row whose bits hold its counts
 
 module _ (f : Field) (ok : usable f ≡ true) where
@@ -94,12 +85,6 @@ module _ (f : Field) (ok : usable f ≡ true) where
   unfolding fits
   usable_unsigned e = ltb-true f.most (2 ^ f.width) (rw e at few.1)
 
-usable_at : (fs : List Field) (k : ℕ) → all_usable fs ≡ true → k < length fs → usable (get_or fs k no_field) ≡ true
-unfolding all_usable
-usable_at [] k e h = absurd (omega arith)
-usable_at (f ∷ fs) zero e h = ((and-eq-true_iff (usable f) (all_usable fs)).0 e).0
-usable_at (f ∷ fs) (suc k) e h = usable_at fs k ((and-eq-true_iff (usable f) (all_usable fs)).0 e).1 (omega arith)
-
 pub usable_head : (f : Field) (fs : List Field) → all_usable (f ∷ fs) ≡ true → usable f ≡ true
 unfolding all_usable
 usable_head f fs e = ((and-eq-true_iff (usable f) (all_usable fs)).0 e).0
@@ -122,31 +107,16 @@ usable_append (f ∷ fs) gs h g =
     let both = (and-eq-true_iff (usable f) (all_usable fs)).0 h in
     (and-eq-true_iff (usable f) (all_usable (fs ++ gs))).1 (both.0, usable_append fs gs both.1 g)
 
--- ---- one step in a table, as a loop takes it
+-- ---- the first of the fields that are left, as a loop takes it
 
 pub open_at : (fs : List Field) (k : ℕ) → k < length fs → drop k fs ≡ get_or fs k no_field ∷ drop (k + 1) fs
 open_at fs k h = rw add-one (drop-cons fs k no_field h)
 
-bits_step : (fs : List Field) (k : ℕ) → k < length fs
-    → bit_count (drop k fs) ≡ (get_or fs k no_field).width + bit_count (drop (k + 1) fs)
-unfolding bit_count
-bits_step fs k h = ap bit_count (open_at fs k h)
+module _ {f : Field} {fs gs : List Field} (left : gs ≡ f ∷ fs) where
+  pub bits_left : bit_count gs ≡ f.width + bit_count fs
+  unfolding bit_count
+  bits_left = ap bit_count left
 
-pub bits_done : (fs : List Field) (k : ℕ) → length fs ≤ k → bit_count (drop k fs) ≡ 0
-unfolding bit_count
-bits_done fs k h = rw (drop_of_length-le fs h) refl
-
--- what is known at the field k, whose bits start `at` bits in; the table's bits end at `end`
-pub record FieldStep (t : Table) (k at end : ℕ) : Type 0 where
-  pub ok : usable (get_or (fields_in t) k no_field) ≡ true
-  pub few : (get_or (fields_in t) k no_field).width < 64
-  pub next : at + (get_or (fields_in t) k no_field).width + bit_count (drop (k + 1) (fields_in t)) ≡ end
-
-pub step_at_lem : (t : Table) (k at end : ℕ) → k < length (fields_in t) → at + bit_count (drop k (fields_in t)) ≡ end → FieldStep t k at end
-step_at_lem t k at end h e =
-    let ok = usable_at (fields_in t) k (usable_tables t) h in
-    record {
-      ok = ok;
-      few = usable_few (get_or (fields_in t) k no_field) ok;
-      next = omega (arith, bits_step (fields_in t) k h);
-    }
+  pub usable_left : all_usable gs ≡ true → (usable f ≡ true) × (all_usable fs ≡ true)
+  unfolding all_usable
+  usable_left h = (and-eq-true_iff (usable f) (all_usable fs)).0 (rw left at h)
