@@ -265,8 +265,8 @@ fn write_head(prn: u8, number: u8, bits: &mut [u8])
     requires { (number < 64) × (length bits.old ≡ PAGE_BITS) }
     ensures { bits.new ≡ bits_of 8 prn ++ (bits_of 6 number ++ drop HEAD_BITS bits.old) }
 {
-    put_number(bits, 0, 8, prn as u64).unwrap();
-    put_number(bits, 8, 6, number as u64).unwrap();
+    put_number(bits, 0, 8, u64::from(prn)).unwrap();
+    put_number(bits, 8, 6, u64::from(number)).unwrap();
 }
 
 // The page bits of a record that is not refused.

@@ -41,12 +41,7 @@ pub fn field_count(table: Table) -> usize
 pub fn bit_count(table: Table) -> usize
     ensures { result ≡ bit_count (fields_in table) }
 {
-    match table {
-        Table::Subframe2 => 566,
-        Table::Page1 => 162,
-        Table::Page6 => 236,
-        Table::NoFields => 0,
-    }
+    fields_of(table).iter().map(|field| field.width).sum()
 }
 
 // The field k of a table, from 0; past the last one, a field of no bits.

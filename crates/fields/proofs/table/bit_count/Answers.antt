@@ -1,16 +1,27 @@
 -- `fields::table::bit_count` meets its contract. Assumes nothing.
-use Rattle.std.proofs.Common.{sym}
-use Rattle.fields.specs.Laws.Table.{bits_subframe2, bits_page1, bits_page6, bits_no_fields}
+use Rattle.std.proofs.Common.{◌≡◌, ℕ, ◌+◌, ◌^◌, ◌<◌, List, [], ◌∷◌, rules, arith, sum_by, fold, ◌∙◌}
+use Rattle.fields.specs.Table.{fields_in, bit_count}
+use Rattle.fields.specs.Laws.Table.{bits_most}
+use Rattle.fields.specs.declared.table.Field.{Field}
 use Rattle.fields.proofs.table.bit_count.Goals as goal
 
-pub returns-in-Subframe2 : goal.returns-in-Subframe2
-returns-in-Subframe2 c = rw c.in-Subframe2.is (sym bits_subframe2)
+-- the widths are summed from the front
+summed : (n : ℕ) (fs : List Field) → fold (λ a (f : Field). a + f.width) n fs ≡ n + bit_count fs
+unfolding bit_count
+summed n [] = omega arith
+summed n (f ∷ fs) = summed (n + f.width) fs ∙ omega arith
 
-pub returns-in-Page1 : goal.returns-in-Page1
-returns-in-Page1 c = rw c.in-Page1.is (sym bits_page1)
+widths : (fs : List Field) → sum_by (λ (f : Field). f.width) fs ≡ bit_count fs
+widths fs = summed 0 fs ∙ omega arith
 
-pub returns-in-Page6 : goal.returns-in-Page6
-returns-in-Page6 c = rw c.in-Page6.is (sym bits_page6)
+pub sum-requires-clause-fits : goal.sum-requires-clause-fits
+sum-requires-clause-fits c =
+    let all : sum_by (λ (f : Field). f.width) c.fields_of.result.now < 2 ^ 64 =
+    rw c.fields_of.ensures (rw (widths (fields_in c.args.table)) (omega (arith, bits_most c.args.table))) in
+    search rules
 
-pub returns-in-NoFields : goal.returns-in-NoFields
-returns-in-NoFields c = rw c.in-NoFields.is (sym bits_no_fields)
+pub returns : goal.returns
+returns c =
+    let all : sum_by (λ (f : Field). f.width) c.fields_of.result.now ≡ bit_count (fields_in c.args.table) =
+    rw c.fields_of.ensures (widths (fields_in c.args.table)) in
+    search rules
