@@ -2,11 +2,14 @@
 ghost use Rattle.std.specs.Prelude.{◌≡◌, ◌≤◌, ◌+◌, length, replicate};
 ghost use Rattle.std.proofs.lemmas.List.Edits.{sets};
 ghost use Rattle.words.specs.Bits.{IsBits};
+ghost use Rattle.fields.specs.Counts.{AllInRange};
+ghost use Rattle.sheets.specs.List.{sheet_fields};
 ghost use Rattle.sheets.specs.Number.{decimal};
+ghost use Rattle.sheets.specs.Write.{sheet_text};
 ghost use Rattle.programs.specs.Output.{OUTPUT_BYTES, symbol_line, refusal_text, output_of};
 
 use super::symbols::set_characters;
-use sheets::write::write_decimal;
+use sheets::write::{write_decimal, write_sheet};
 
 // The bytes printed, with zeros behind them, and how many they are.
 #[derive(Clone, Copy)]
@@ -60,6 +63,18 @@ impl Output {
         set_characters(symbols, &mut self.bytes[self.size..end]);
         self.size = end;
         self.put(b"\n");
+    }
+
+    // Puts the sheet of good numbers behind it, at most 800 bytes.
+    pub(crate) fn put_sheet(&mut self, numbers: &[i64])
+        requires range { AllInRange sheet_fields numbers.now }
+        requires room { self.old.size + 800 ≤ OUTPUT_BYTES }
+        ensures few { self.new.size ≤ self.old.size + 800 }
+        ensures size { self.new.size ≡ self.old.size + length (sheet_text numbers.now) }
+        ensures bytes { self.new.bytes ≡ sets self.old.bytes self.old.size (sheet_text numbers.now) }
+    {
+        let written = write_sheet(numbers, &mut self.bytes[self.size..]);
+        self.size += written.size;
     }
 }
 

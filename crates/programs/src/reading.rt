@@ -16,7 +16,6 @@ ghost use Rattle.programs.specs.Reading.{frame_line, frame_line_answer, contents
 use super::output::{Output, refusal_output};
 use super::symbols::take_symbols;
 use frames::read::{Frame, read};
-use sheets::write::write_sheet;
 use words::refusal::{Answer, LENGTH, refuse};
 
 // The symbols of the input, all but its newline. Refused 1 at 0 for another length or without its newline, 2 at the first character that
@@ -46,18 +45,6 @@ fn numbers_of(toi: u16, counts: [i64; 33]) -> [i64; 34]
     numbers
 }
 
-// The sheet of good numbers, put behind what is there.
-fn put_sheet(output: &mut Output, numbers: &[i64])
-    requires range { AllInRange sheet_fields numbers.now }
-    requires room { output.old.size + 800 ≤ OUTPUT_BYTES }
-    ensures few { output.new.size ≤ output.old.size + 800 }
-    ensures size { output.new.size ≡ output.old.size + length (sheet_text numbers.now) }
-    ensures bytes { output.new.bytes ≡ sets output.old.bytes output.old.size (sheet_text numbers.now) }
-{
-    let written = write_sheet(numbers, &mut output.bytes[output.size..]);
-    output.size += written.size;
-}
-
 // How many symbols were corrected, the page line and the sheet.
 fn contents_output(frame: Frame) -> Output
     requires { (frame.corrected ≤ 9) × GoodContents (contents_of frame.toi frame.counts frame.page) }
@@ -71,7 +58,7 @@ fn contents_output(frame: Frame) -> Output
     let page = frame.page;
     output.put_line(&page);
     let numbers = numbers_of(frame.toi, frame.counts);
-    put_sheet(&mut output, &numbers);
+    output.put_sheet(&numbers);
     output
 }
 

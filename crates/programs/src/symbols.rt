@@ -11,7 +11,7 @@ use words::refusal::{Answer, LENGTH, NOT_A_BIT, refuse};
 fn is_symbol(character: u8) -> bool
     ensures { result ≡ is_symbol character }
 {
-    matches!(character, b'0'..=b'1')
+    (b'0'..=b'1').contains(&character)
 }
 
 // The index of the first character that is neither `0` nor `1`, or the length.

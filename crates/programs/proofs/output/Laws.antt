@@ -1,17 +1,20 @@
--- A refusal written part by part, and how long it is.
+-- A number or a sheet put behind what is there, and a refusal, part by part.
 -- Assumes nothing.
 use mathlib.Core.Path.{◌≡◌}
 use mathlib.Core.List.{List, [], ◌∷◌, ◌++◌}
 use Prim.Native.Nat.{ℕ, ◌+◌, ◌≤◌, ◌<◌, ◌^◌}
 use native.Mathlib.Omega.{arith}
+use lib.IntN.{ℤ}
 use lib.ListN.{length}
+use Rattle.fields.specs.Counts.{AllInRange}
 use Rattle.sheets.specs.Text.{LINE_END, bytes_in}
+use Rattle.sheets.specs.List.{sheet_fields}
 use Rattle.sheets.specs.Number.{decimal}
-use Rattle.sheets.specs.Laws.Lengths.{decimal_short}
-use Rattle.sheets.specs.Write.{text_written, text_bytes}
+use Rattle.sheets.specs.Write.{text_written, text_bytes, sheet_text, sheet_written, written_bytes}
+use Rattle.sheets.specs.Laws.Lengths.{decimal_short, lines_short, sheet_long}
 use Rattle.sheets.specs.declared.write.Written.{Written}
 use Rattle.programs.specs.Output.{OUTPUT_BYTES, refusal_text}
-use Rattle.programs.specs.Laws.Output.{Puts, Adds, adds_on, part_from, with_part, text_put}
+use Rattle.programs.specs.Laws.Output.{Puts, Adds, adds_on, part_from, with_part, text_put, sheet_put}
 use Rattle.programs.specs.declared.output.Output.{Output}
 
 -- the digits of a number of 64 bits are at most 20
@@ -23,6 +26,20 @@ pub digits_put : (number : ℕ) (o : Output) → number < 2 ^ 64 → length o.by
 digits_put number o h long room written part w e =
     let few = decimal_short number h in
     let put = text_put (decimal number) o.bytes OUTPUT_BYTES o.size long (omega (arith, few)) written part w e in
+    (put, omega (arith, put.0, few))
+
+-- a sheet of good numbers has at most 800 bytes
+sheet_most : (zs : List ℤ) → AllInRange sheet_fields zs → length (sheet_text zs) ≤ 800
+sheet_most zs range = omega (arith, sheet_long zs, lines_short zs range)
+
+pub good_sheet_put : (zs : List ℤ) (o : Output) → AllInRange sheet_fields zs → length o.bytes ≡ OUTPUT_BYTES → o.size + 800 ≤ OUTPUT_BYTES
+    → (written : Written) (part : List ℕ) → written ≡ sheet_written zs (part_from OUTPUT_BYTES o.size o.bytes)
+    → part ≡ written_bytes zs (part_from OUTPUT_BYTES o.size o.bytes)
+    → Puts o.bytes o.size (sheet_text zs) (o.size + written.size) (with_part OUTPUT_BYTES o.size o.bytes part)
+    × (o.size + written.size ≤ o.size + 800)
+good_sheet_put zs o range long room written part w e =
+    let few = sheet_most zs range in
+    let put = sheet_put zs o.bytes OUTPUT_BYTES o.size range long (omega (arith, few)) written part w e in
     (put, omega (arith, put.0, few))
 
 -- a refusal, each part behind the one before

@@ -23,7 +23,7 @@ returns c =
     let contents = contents_of frame.toi frame.counts frame.page in
     let fresh = c.new-output in
     let page = c.put_line.new.self in
-    let output = c.put_sheet.new.output in
+    let output = c.put_sheet.new.self in
     let sheet = subst (λ (zs : List ℤ). Adds page (sheet_text zs) output) c.numbers_of-numbers.ensures
     (c.put_sheet.ensures.size, c.put_sheet.ensures.bytes) in
     let added = contents_added contents frame.corrected fresh.result c.put.new.self c.put_number.new.self c.put-2.new.self page output
