@@ -7,10 +7,9 @@ ghost use Rattle.exports.specs.Code.{code_of};
 ghost use Rattle.exports.specs.Calls.{build_call, build_call_frame, read_call, read_call_numbers, read_call_page, time_call, time_call_time, subframe2_call, subframe2_call_counts, subframe3_call, subframe3_call_page};
 
 use super::code::{code_of, refusal_code};
-use super::lent::{LISTED, copy_numbers, put_numbers, toi_of};
+use super::lent::{LISTED, put_numbers, toi_of};
 use frames::build::build;
 use frames::read::{read, read_subframe2, read_subframe3, read_time};
-use words::bits::copy;
 use words::refusal::{Answer, LENGTH};
 
 // Builds the frame of 34 numbers, toi's first, and 250 page bits into 1800 bytes. Refused 1, 2 (page bits), 3, 6, 9.
@@ -30,10 +29,7 @@ pub fn l1c_build(contents: &[i64], page: &[u8], frame: &mut [u8]) -> u64
 fn has_room(numbers: usize, page: usize) -> bool
     ensures { result ≡ (eqb numbers NUMBERS && eqb page PAGE_BITS) }
 {
-    if numbers != LISTED {
-        return false;
-    }
-    page == 250
+    numbers == LISTED && page == 250
 }
 
 // Reads a frame into 34 numbers, toi's first, and 250 page bits, and says how many time symbols were corrected. Refused 1, 2, then 3, then
@@ -54,7 +50,7 @@ pub fn l1c_read(frame: &[u8], contents: &mut [i64], page: &mut [u8]) -> u64
             let counts = found.counts;
             let bits = found.page;
             put_numbers(found.toi, &counts, contents);
-            copy(&bits, page);
+            page.copy_from_slice(&bits);
             found.corrected as u64
         }
     }
@@ -94,7 +90,7 @@ pub fn l1c_read_subframe2(frame: &[u8], counts: &mut [i64]) -> u64
         Answer::Refused(r) => refusal_code(r.number, r.place),
         Answer::Done => {
             let numbers = found.counts;
-            copy_numbers(&numbers, counts);
+            counts.copy_from_slice(&numbers);
             0
         }
     }
@@ -115,7 +111,7 @@ pub fn l1c_read_subframe3(frame: &[u8], page: &mut [u8]) -> u64
         Answer::Refused(r) => refusal_code(r.number, r.place),
         Answer::Done => {
             let page_bits = found.page;
-            copy(&page_bits, page);
+            page.copy_from_slice(&page_bits);
             0
         }
     }

@@ -7,7 +7,7 @@ ghost use Rattle.exports.specs.Code.{HALF, code_of};
 ghost use Rattle.exports.specs.Calls.{sheet_call, sheet_call_numbers};
 
 use super::code::{HALF, code_of, refusal_code};
-use super::lent::{LISTED, copy_numbers};
+use super::lent::LISTED;
 use sheets::sheet::read_sheet;
 use sheets::write::write_sheet;
 use words::refusal::{Answer, LENGTH};
@@ -16,10 +16,7 @@ use words::refusal::{Answer, LENGTH};
 fn has_lengths(bytes: usize, numbers: usize) -> bool
     ensures { result ≡ (ltb bytes HALF && eqb numbers NUMBERS) }
 {
-    if HALF <= bytes as u64 {
-        return false;
-    }
-    numbers == LISTED
+    (bytes as u64) < HALF && numbers == LISTED
 }
 
 // Reads the sheet at the end of the bytes into 34 numbers, toi's first, and says how many bytes stand before it. Refused 1 (also for 2^32
@@ -37,7 +34,7 @@ pub fn l1c_read_sheet(bytes: &[u8], contents: &mut [i64]) -> u64
         Answer::Refused(r) => refusal_code(r.number, r.place),
         Answer::Done => {
             let numbers = found.numbers;
-            copy_numbers(&numbers, contents);
+            contents.copy_from_slice(&numbers);
             found.before as u64
         }
     }

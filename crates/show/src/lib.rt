@@ -51,18 +51,9 @@ pub fn refused(text: &[u8], answer: Answer, number: u8, place: usize) -> bool
 }
 
 // Whether two lists of counts are the same.
+#[tactic(auto, using(crate::proofs::Counts::counts_compared))]
 pub fn same_counts(a: &[i64], b: &[i64]) -> bool
     ensures { SameCounts result a.now b.now }
 {
-    if a.len() != b.len() {
-        return false;
-    }
-    let mut k: usize = 0;
-    while k < a.len() {
-        if a[k] != b[k] {
-            return false;
-        }
-        k += 1;
-    }
-    true
+    a == b
 }
