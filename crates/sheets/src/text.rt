@@ -7,31 +7,14 @@ ghost use Rattle.sheets.specs.Text.{index_of, same_bytes};
 pub fn find(bytes: &[u8], b: u8) -> usize
     ensures { result ≡ index_of b bytes.now }
 {
-    let mut i: usize = 0;
-    while i < bytes.len() {
-        if bytes[i] == b {
-            return i;
-        }
-        i += 1;
-    }
-    i
+    bytes.iter().position(|x| *x == b).unwrap_or(bytes.len())
 }
 
 // Both have the same bytes.
 pub(crate) fn same(a: &[u8], b: &[u8]) -> bool
     ensures { result ≡ same_bytes a.now b.now }
 {
-    if a.len() != b.len() {
-        return false;
-    }
-    let mut i: usize = 0;
-    while i < a.len() {
-        if a[i] != b[i] {
-            return false;
-        }
-        i += 1;
-    }
-    true
+    a == b
 }
 
 // Writes bytes from `at` on, and gives the place behind them.
@@ -39,10 +22,7 @@ pub(crate) fn put_bytes(out: &mut [u8], at: usize, bytes: &[u8]) -> usize
     requires { at + length bytes.now ≤ length out.old }
     ensures { (result ≡ at + length bytes.now) × (out.new ≡ sets out.old at bytes.now) }
 {
-    let mut i: usize = 0;
-    while i < bytes.len() {
-        out[at + i] = bytes[i];
-        i += 1;
-    }
-    at + i
+    let end = at + bytes.len();
+    out[at..end].copy_from_slice(bytes);
+    end
 }
