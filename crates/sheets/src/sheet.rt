@@ -4,7 +4,7 @@ ghost use Rattle.sheets.specs.Lines.{first_missing, numbers_in, lines_in, body_a
 ghost use Rattle.sheets.specs.Sheet.{no_sheet, sheet_by, sheet_read, before_sheet};
 ghost use Rattle.sheets.specs.Laws.Steps.{finished_sheet};
 
-use super::lines::{Line, judge_line};
+use super::lines::judge_line;
 use super::list::LISTED;
 use super::text::find;
 use super::trailer::sheet_start;
@@ -67,17 +67,17 @@ fn read_lines(lines: &[u8], before: usize) -> Sheet
     let mut given = [false; 34];
     while at < lines.len() {
         let rest = &lines[at..];
-        let end = find(rest, 10);
+        let end = find(rest, b'\n');
         if end == rest.len() {
             return no_sheet(LINE, at);
         }
         match judge_line(&rest[..end], given) {
-            Line::Gives(k, number) => {
+            Ok((k, number)) => {
                 numbers[k] = number;
                 given[k] = true;
                 at = at + end + 1;
             }
-            Line::Refused(number) => {
+            Err(number) => {
                 return no_sheet(number, at);
             }
         }

@@ -1,20 +1,13 @@
-// Texts: where a byte stands, the same bytes, and bytes that are written.
+// Texts: where a byte stands, and bytes that are written.
 ghost use Rattle.std.specs.Prelude.{◌≡◌, ◌≤◌, ◌+◌, length};
 ghost use Rattle.std.proofs.lemmas.List.Edits.{sets};
-ghost use Rattle.sheets.specs.Text.{index_of, same_bytes};
+ghost use Rattle.sheets.specs.Text.{index_of};
 
 // How many bytes stand before the first byte `b`: all, where there is none.
 pub fn find(bytes: &[u8], b: u8) -> usize
     ensures { result ≡ index_of b bytes.now }
 {
     bytes.iter().position(|x| *x == b).unwrap_or(bytes.len())
-}
-
-// Both have the same bytes.
-pub(crate) fn same(a: &[u8], b: &[u8]) -> bool
-    ensures { result ≡ same_bytes a.now b.now }
-{
-    a == b
 }
 
 // Writes bytes from `at` on, and gives the place behind them.

@@ -1,5 +1,6 @@
 -- Numbers as the code reads and writes them.
 -- Assumes nothing.
+use Rattle.std.specs.Prelude.{Option, Some, None}
 use mathlib.Core.Path.{◌≡◌, refl, sym, ap, ◌∙◌}
 use mathlib.Core.Bool.{Bool, true, false, cond, not, ◌&&◌, ◌||◌, and-false, or-true}
 use mathlib.Core.List.{List, [], ◌∷◌}
@@ -22,16 +23,12 @@ use Rattle.sheets.specs.Number.{MINUS, is_digit, all_digits, decimal_from, decim
 use Rattle.sheets.specs.Laws.Steps.{BEYOND, digits_are, digits_are_not, plain_read, negative_read, positive_read, number_read}
 use Rattle.sheets.specs.Laws.Sets.{sets_append}
 use Rattle.sheets.specs.Laws.Numerals.{decimal_least, decimal_small, decimal_large}
-use Rattle.sheets.specs.declared.number.Digits.{Digits}
-use Rattle.sheets.specs.declared.number.Digits.TheVariants.{Are, AreNot}
-use Rattle.sheets.specs.declared.number.Number.{Number}
-use Rattle.sheets.specs.declared.number.Number.TheVariants.{Is, IsNot}
 
 -- ---- digits, from a place on
 
 -- the digits of l, read behind others that stand for n
-abbrev pub digits_from : ℕ → List ℕ → Digits
-digits_from n l = cond (all_digits l) (Are (min (decimal_from n l) BEYOND)) AreNot
+abbrev pub digits_from : ℕ → List ℕ → Option ℕ
+digits_from n l = cond (all_digits l) (Some (min (decimal_from n l) BEYOND)) None
 
 -- cut at BEYOND on the way or at the end, it is the same
 decimal_cut : (l : List ℕ) (n : ℕ) → min (decimal_from (min n BEYOND) l) BEYOND ≡ min (decimal_from n l) BEYOND
@@ -42,14 +39,14 @@ decimal_cut l n = go (dec_le n BEYOND)
     go (no h) = omega (arith, decimal_least l n, decimal_least l (min n BEYOND))
 
 module _ (l : List ℕ) (i n : ℕ) where
-  no_digit : i < length l → is_digit (get_or l i 0) ≡ false → digits_from n (drop i l) ≡ AreNot
+  no_digit : i < length l → is_digit (get_or l i 0) ≡ false → digits_from n (drop i l) ≡ None
   unfolding all_digits
   no_digit h e = rw (drop-cons l i 0 h, all_digits, e)
 
-  pub digit_below : i < length l → get_or l i 0 < 48 → digits_from n (drop i l) ≡ AreNot
+  pub digit_below : i < length l → get_or l i 0 < 48 → digits_from n (drop i l) ≡ None
   digit_below h e = no_digit h (rw (lt-leb 48 (get_or l i 0) e))
 
-  pub digit_above : i < length l → 57 < get_or l i 0 → digits_from n (drop i l) ≡ AreNot
+  pub digit_above : i < length l → 57 < get_or l i 0 → digits_from n (drop i l) ≡ None
   digit_above h e = no_digit h (rw (lt-leb (get_or l i 0) 57 e) (and-false (leb 48 (get_or l i 0))))
 
   pub digit_here : i < length l → 48 ≤ get_or l i 0 → get_or l i 0 ≤ 57
@@ -66,7 +63,7 @@ module _ (l : List ℕ) (i n : ℕ) where
         decimal_cut (drop (suc i) l) (n * 10 + (get_or l i 0 - 48)),
       )
 
-  pub digits_end : length l ≤ i → n ≤ BEYOND → digits_from n (drop i l) ≡ Are n
+  pub digits_end : length l ≤ i → n ≤ BEYOND → digits_from n (drop i l) ≡ Some n
   unfolding all_digits decimal_from
   digits_end h low = let e : min n BEYOND ≡ n = omega arith in rw (drop_of_length-le l h, all_digits, decimal_from, e)
 
@@ -92,16 +89,16 @@ module _ (l : List ℕ) where
       rw (lt-ltb 0 (length l) (omega arith), eq-eqb (length l) 1 n)
       (ap (λ (t : Bool). t && all_digits l) (or-true (not (eqb (get_or l 0 0) 48))))
 
-pub plain_most : (l : List ℕ) (n : ℕ) → plain_read l ≡ Are n → n ≤ BEYOND
+pub plain_most : (l : List ℕ) (n : ℕ) → plain_read l ≡ Some n → n ≤ BEYOND
 plain_most l n e = omega (arith, (digits_are (is_plain l) l n e).1)
 
 -- ---- a number in a field's range
 
 -- a number with a sign or without, in range
-abbrev pub within_by : Field → ℤ → Number
-within_by f z = cond (in_range f z) (Is z) IsNot
+abbrev pub within_by : Field → ℤ → Option ℤ
+within_by f z = cond (in_range f z) (Some z) None
 
-range_past : (f : Field) (z : ℤ) → f.most < mag z → within_by f z ≡ IsNot
+range_past : (f : Field) (z : ℤ) → f.most < mag z → within_by f z ≡ None
 range_past f z h =
     rw (lt-leb (mag z) f.most h, and-false (leb f.least (mag z)), and-false (f.signed || non_neg z)) refl
 
@@ -121,23 +118,23 @@ minus_size m zero h = absurd (omega arith)
 minus_size m (suc n) h = omega arith
 
 module _ (f : Field) (l : List ℕ) where
-  pub positive_none : plain_read l ≡ AreNot → IsNot ≡ positive_read f l
+  pub positive_none : plain_read l ≡ None → None ≡ positive_read f l
   positive_none e = rw (digits_are_not (is_plain l) l e)
 
-  pub positive_some : f.most + 1 < BEYOND → (n : ℕ) → plain_read l ≡ Are n → within_by f (pos n) ≡ positive_read f l
+  pub positive_some : f.most + 1 < BEYOND → (n : ℕ) → plain_read l ≡ Some n → within_by f (pos n) ≡ positive_read f l
   positive_some h n e =
       let are = digits_are (is_plain l) l n e in
       rw (are.0, are.1) (within_cut f pos (λ k g. omega arith) (decimal_in l))
 
-  pub negative_none : plain_read l ≡ AreNot → IsNot ≡ negative_read f l
+  pub negative_none : plain_read l ≡ None → None ≡ negative_read f l
   negative_none e = rw (digits_are_not (is_plain l) l e)
 
-  pub negative_zero : (n : ℕ) → plain_read l ≡ Are n → n ≡ 0 → IsNot ≡ negative_read f l
+  pub negative_zero : (n : ℕ) → plain_read l ≡ Some n → n ≡ 0 → None ≡ negative_read f l
   negative_zero n e z =
       let are = digits_are (is_plain l) l n e in
       rw (are.0, eq-eqb (decimal_in l) 0 (omega (arith, are.1)))
 
-  pub negative_some : f.most + 1 < BEYOND → (n : ℕ) → plain_read l ≡ Are n → (n ≡ 0 → ⊥) → within_by f (neg_ℤ (pos n)) ≡ negative_read f l
+  pub negative_some : f.most + 1 < BEYOND → (n : ℕ) → plain_read l ≡ Some n → (n ≡ 0 → ⊥) → within_by f (neg_ℤ (pos n)) ≡ negative_read f l
   negative_some h n e z =
       let are = digits_are (is_plain l) l n e in
       rw (are.0, ne_eqb (decimal_in l) 0 (λ q. z (omega (arith, are.1))), are.1)
@@ -164,11 +161,11 @@ module _ (n : ℕ) (h : n ≤ BEYOND) where
 -- ---- a number, by its first byte
 
 module _ (f : Field) (l : List ℕ) where
-  pub number_empty : length l ≡ 0 → IsNot ≡ number_read f l
+  pub number_empty : length l ≡ 0 → None ≡ number_read f l
   unfolding is_number is_plain
   number_empty h = go l h
     where
-      go : (m : List ℕ) → length m ≡ 0 → IsNot ≡ number_read f m
+      go : (m : List ℕ) → length m ≡ 0 → None ≡ number_read f m
       go [] e = refl
       go (b ∷ m) e = absurd (omega arith)
 

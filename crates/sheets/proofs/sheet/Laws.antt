@@ -1,5 +1,6 @@
 -- Reading lines from a place on: what is read of a line against its answer, and how far reading has come.
 -- Assumes nothing.
+use Rattle.std.specs.Prelude.{Some, None, Result, Ok, Err}
 use mathlib.Core.Path.{◌≡◌, refl, sym, ap, ap₂, ◌∙◌}
 use mathlib.Core.Bool.{Bool, true, false, cond, not}
 use mathlib.Core.List.{List, [], ◌∷◌, ◌++◌, append-nil, append_assoc}
@@ -25,21 +26,18 @@ use Rattle.sheets.specs.Laws.Steps.{named_line, line_by, line_read, finished_she
 use Rattle.sheets.specs.Laws.Text.{index_le, parts_none, rest_none, parts_from, rest_cut}
 use Rattle.sheets.specs.Laws.List.{position_name}
 use Rattle.sheets.specs.Laws.Lines.{given_many, given_at, given_set, numbers_set, missing_le}
-use Rattle.sheets.specs.declared.number.Number.TheVariants.{Is, IsNot}
-use Rattle.sheets.specs.declared.lines.Line.{Line}
-use Rattle.sheets.specs.declared.lines.Line.TheVariants.{Gives, Refused}
 
 -- ---- a line
 
 -- the answer to a line at a place, by what was read of it
-abbrev answer_by : ℕ → Line → Answer
-answer_by place (Gives k z) = Done
-answer_by place (Refused n) = refused_at n place
+abbrev answer_by : ℕ → Result (ℕ × ℤ) ℕ → Answer
+answer_by place (Ok (k, z)) = Done
+answer_by place (Err n) = refused_at n place
 
 -- what is read of a line by four tests: it has its `=`, its name is listed, its name is given, its number is right
-abbrev read_by : Bool → Bool → Bool → Bool → ℕ → ℤ → Line
+abbrev read_by : Bool → Bool → Bool → Bool → ℕ → ℤ → Result (ℕ × ℤ) ℕ
 read_by equals listed again right k z =
-    cond equals (cond listed (cond again (Refused NAME_AGAIN) (line_by k (cond right (Is z) IsNot))) (Refused NAME)) (Refused LINE)
+    cond equals (cond listed (cond again (Err NAME_AGAIN) (line_by k (cond right (Some z) None))) (Err NAME)) (Err LINE)
 
 answer_tests : (equals listed given again right : Bool) (place k : ℕ) (z : ℤ) → (listed ≡ true → again ≡ given)
     → in_turn (done_if equals LINE place)
@@ -51,13 +49,15 @@ answer_tests true true true again right place k z h = rw (h refl)
 answer_tests true true false again true place k z h = rw (h refl)
 answer_tests true true false again false place k z h = rw (h refl)
 
-gives_tests : (equals listed again right : Bool) (i k : ℕ) (y z : ℤ) → read_by equals listed again right i y ≡ Gives k z
+gives_tests : (equals listed again right : Bool) (i k : ℕ) (y z : ℤ) → read_by equals listed again right i y ≡ Ok (k, z)
     → (listed ≡ true) × (again ≡ false) × (i ≡ k) × (y ≡ z)
 gives_tests false listed again right i k y z e = let w : ◌≡◌ {A = ℕ} 0 1 = cc in absurd (omega arith)
 gives_tests true false again right i k y z e = let w : ◌≡◌ {A = ℕ} 0 1 = cc in absurd (omega arith)
 gives_tests true true true right i k y z e = let w : ◌≡◌ {A = ℕ} 0 1 = cc in absurd (omega arith)
 gives_tests true true false false i k y z e = let w : ◌≡◌ {A = ℕ} 0 1 = cc in absurd (omega arith)
-gives_tests true true false true i k y z e = (refl, refl, cc, cc)
+gives_tests true true false true i k y z e =
+    let p : ◌≡◌ {A = ℕ × ℤ} (i, y) (k, z) = cc in
+    (refl, refl, ap (λ (q : ℕ × ℤ). q.0) p, ap (λ (q : ℕ × ℤ). q.1) p)
 
 module _ (earlier : List (List ℕ)) (line : List ℕ) where
   abbrev position : ℕ
@@ -83,7 +83,7 @@ module _ (earlier : List (List ℕ)) (line : List ℕ) where
       given_there
 
   -- a line that gives a number: one name more is given
-  module _ (k : ℕ) (z : ℤ) (e : line_read line (given_in earlier) ≡ Gives k z) where
+  module _ (k : ℕ) (z : ℤ) (e : line_read line (given_in earlier) ≡ Ok (k, z)) where
     facts : (is_listed (name_in line) ≡ true)
         × (get_or (given_in earlier) position false ≡ false)
         × (position ≡ k)
@@ -209,7 +209,7 @@ module _ {l : List ℕ} {at : ℕ} {numbers : List ℤ} {given : List Bool} (p :
 
     module _ (h : at + n < length l) where
       -- what is read of it
-      module _ {x : Line} (r : line_read (take n (take (length l - at) (drop at l))) given ≡ x) where
+      module _ {x : Result (ℕ × ℤ) ℕ} (r : line_read (take n (take (length l - at) (drop at l))) given ≡ x) where
         line_there : line_read (take n (drop at l)) (given_in p.earlier) ≡ x
         line_there = ap₂ line_read (ap (take n) (sym (part_to_end l at))) (sym p.given_are) ∙ r
 
@@ -220,11 +220,11 @@ module _ {l : List ℕ} {at : ℕ} {numbers : List ℤ} {given : List Bool} (p :
             ∙ ap (λ (a : Answer). in_turn a (answer_from (p.earlier ++ take n (drop at l) ∷ []) l (at + n + 1)))
             (line_answer_lem p.earlier (take n (drop at l)) at ∙ ap (answer_by at) line_there)
 
-      pub refused_line : {number : ℕ} → line_read (take n (take (length l - at) (drop at l))) given ≡ Refused number
+      pub refused_line : {number : ℕ} → line_read (take n (take (length l - at) (drop at l))) given ≡ Err number
           → body_answer l ≡ refused_at number at
       refused_line r = next_answer r
 
-      module _ {k : ℕ} {z : ℤ} (r : line_read (take n (take (length l - at) (drop at l))) given ≡ Gives k z) where
+      module _ {k : ℕ} {z : ℤ} (r : line_read (take n (take (length l - at) (drop at l))) given ≡ Ok (k, z)) where
         pub given_listed : k < length sheet_names
         given_listed = gives_listed p.earlier (take n (drop at l)) k z (line_there r)
 

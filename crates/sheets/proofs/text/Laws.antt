@@ -1,7 +1,7 @@
--- The first byte of a kind, as `position` finds it, and the same bytes, as `==` compares them.
+-- The first byte of a kind, as `position` finds it, and the same bytes, as `==` and `starts_with` compare them.
 -- Assumes nothing.
-use Rattle.std.proofs.Common.{◌≡◌, refl, ℕ, ◌≤◌, List, [], ◌∷◌, eqb, ltb, length, sym, ap, ◌∙◌, cond, arith, add-one, add_comm}
-use Rattle.std.specs.List.{position, position_or_len}
+use Rattle.std.proofs.Common.{◌≡◌, refl, ℕ, ◌≤◌, List, [], ◌∷◌, eqb, ltb, length, ap, ◌∙◌, cond, ◌&&◌, take, ap₂, arith}
+use Rattle.std.specs.List.{position, position_or_len, starts_with}
 use Rattle.std.specs.Option.{unwrap_or}
 use Rattle.std.specs.declared.option.Option.TheVariants.{None, Some}
 use Rattle.std.proofs.lemmas.List.Recursion.{is_position_or_len}
@@ -23,9 +23,15 @@ index_position b l =
     let h = index_le b l in
     e ∙ found_by (position_or_len (λ x. eqb x b) l) (length l) (omega arith)
 
-pub same_pointwise : (a b : List ℕ) → same_bytes a b ≡ pointwise eqb a b
+flipped : (x y : ℕ) → eqb x y ≡ eqb y x
+flipped x y = grind (arith, nat_tests)
+
+pub same_flipped : (a b : List ℕ) → same_bytes a b ≡ pointwise eqb b a
 unfolding same_bytes
-same_pointwise [] [] = refl
-same_pointwise [] (y ∷ b) = refl
-same_pointwise (x ∷ a) [] = refl
-same_pointwise (x ∷ a) (y ∷ b) = rw (same_pointwise a b)
+same_flipped [] [] = refl
+same_flipped [] (y ∷ b) = refl
+same_flipped (x ∷ a) [] = refl
+same_flipped (x ∷ a) (y ∷ b) = ap₂ (λ t u. t && u) (flipped x y) (same_flipped a b)
+
+pub same_starts : (l word : List ℕ) → same_bytes (take (length word) l) word ≡ starts_with eqb l word
+same_starts l word = same_flipped (take (length word) l) word
