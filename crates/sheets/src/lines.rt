@@ -7,13 +7,14 @@ use super::number::read_number;
 use super::text::find;
 use words::refusal::{LINE, NAME, NAME_AGAIN, NUMBER};
 
-// What the line of the name at a position of the list says: the position and the number, or the number of its refusal; `given` are the names
-// of the lines before it.
-fn judge_named(k: usize, text: &[u8], given: [bool; 34]) -> Result<(usize, i64), u8>
+// What the line of the name at a position of the list says: the position and the number, or the number of its refusal; `found` are the
+// numbers of the lines before it.
+fn judge_named(k: usize, text: &[u8], found: &[Option<i64>; 34]) -> Result<(usize, i64), u8>
     requires { k < LISTED }
-    ensures { result ≡ named_line k text.now given }
+    ensures { result ≡ named_line k text.now found.now }
 {
-    if given[k] {
+    let again = found[k].is_some();
+    if again {
         return Err(NAME_AGAIN);
     }
     let number = read_number(listed_field(k), text).ok_or(NUMBER)?;
@@ -21,8 +22,8 @@ fn judge_named(k: usize, text: &[u8], given: [bool; 34]) -> Result<(usize, i64),
 }
 
 // The same of a line without its end.
-pub(crate) fn judge_line(line: &[u8], given: [bool; 34]) -> Result<(usize, i64), u8>
-    ensures { result ≡ line_read line.now given }
+pub(crate) fn judge_line(line: &[u8], found: &[Option<i64>; 34]) -> Result<(usize, i64), u8>
+    ensures { result ≡ line_read line.now found.now }
 {
     let equals = find(line, b'=');
     if equals == line.len() {
@@ -32,5 +33,5 @@ pub(crate) fn judge_line(line: &[u8], given: [bool; 34]) -> Result<(usize, i64),
     let Some(k) = name_position(&line[..equals]) else {
         return Err(NAME);
     };
-    judge_named(k, &line[from..], given)
+    judge_named(k, &line[from..], found)
 }

@@ -1,6 +1,7 @@
 -- What the functions of `sheets` below the public ones give.
 -- Assumes nothing.
-use Rattle.std.specs.Prelude.{◌≡◌, refl, Option, Some, None, Result, Ok, Err, Bool, true, false, cond, not, ◌&&◌, List, ℕ, ◌+◌, min, eqb, ltb, ℤ, pos, neg_ℤ, length, get_or}
+use Rattle.std.specs.Prelude.{◌≡◌, refl, Option, Some, None, is_some, is_none, unwrap_or, map, Result, Ok, Err, Bool, true, false, cond, not, ◌&&◌, List, ℕ, ◌+◌, min, eqb, ltb, ℤ, pos, neg_ℤ, length, get_or}
+use Rattle.std.specs.List.{position_or_len}
 use Rattle.words.specs.Refusal.{LINE, NAME, NAME_AGAIN, NUMBER, NAME_MISSING}
 use Rattle.fields.specs.Table.{no_field}
 use Rattle.fields.specs.Counts.{in_range}
@@ -8,9 +9,19 @@ use Rattle.fields.specs.declared.table.Field.{Field}
 use Rattle.sheets.specs.List.{sheet_names, sheet_fields, position_in}
 use Rattle.sheets.specs.Number.{all_digits, decimal_in, is_plain, is_number_of, value_in}
 use Rattle.sheets.specs.Trailer.{is_trailer, digits_in}
-use Rattle.sheets.specs.Lines.{has_equals, name_in, behind_equals, is_listed, first_missing}
+use Rattle.sheets.specs.Lines.{has_equals, name_in, behind_equals, is_listed}
 use Rattle.sheets.specs.Sheet.{no_sheet, sheet_is}
 use Rattle.sheets.specs.declared.sheet.Sheet.{Sheet}
+
+-- ---- a place where the test holds, and none where it doesn't
+
+pub some_is : (test : Bool) (n k : ℕ) → cond test (Some n) None ≡ Some k → (test ≡ true) × (n ≡ k)
+some_is true n k e = (refl, cc)
+some_is false n k e = (cc, cc)
+
+pub none_is : (test : Bool) (n : ℕ) → cond test (Some n) None ≡ None → test ≡ false
+none_is true n e = cc
+none_is false n e = refl
 
 -- ---- numbers
 
@@ -68,21 +79,23 @@ abbrev pub line_by : ℕ → Option ℤ → Result (ℕ × ℤ) ℕ
 line_by k (Some z) = Ok (k, z)
 line_by k None = Err NUMBER
 
--- a line of the name at position k, where these names are given
-unfoldable pub named_line : ℕ → List ℕ → List Bool → Result (ℕ × ℤ) ℕ
-named_line k text given =
+-- a line of the name at position k, where these numbers are found
+unfoldable pub named_line : ℕ → List ℕ → List (Option ℤ) → Result (ℕ × ℤ) ℕ
+named_line k text found =
     cond (ltb k (length sheet_names))
-    (cond (get_or given k false) (Err NAME_AGAIN) (line_by k (number_read (get_or sheet_fields k no_field) text)))
+    (cond (is_some (get_or found k None)) (Err NAME_AGAIN) (line_by k (number_read (get_or sheet_fields k no_field) text)))
     (Err NAME)
 
 -- a line without its end
-unfoldable pub line_read : List ℕ → List Bool → Result (ℕ × ℤ) ℕ
-line_read line given =
-    cond (has_equals line) (named_line (position_in (name_in line) sheet_names) (behind_equals line) given) (Err LINE)
+unfoldable pub line_read : List ℕ → List (Option ℤ) → Result (ℕ × ℤ) ℕ
+line_read line found =
+    cond (has_equals line) (named_line (position_in (name_in line) sheet_names) (behind_equals line) found) (Err LINE)
 
 -- ---- the sheet
 
 -- after the last line
-unfoldable pub finished_sheet : List ℤ → List Bool → ℕ → Sheet
-finished_sheet zs given before =
-    cond (ltb (first_missing given) (length sheet_names)) (no_sheet NAME_MISSING (first_missing given + 1)) (sheet_is zs before)
+unfoldable pub finished_sheet : List (Option ℤ) → ℕ → Sheet
+finished_sheet found before =
+    cond (ltb (position_or_len is_none found) (length found))
+    (no_sheet NAME_MISSING (position_or_len is_none found + 1))
+    (sheet_is (map (λ (number : Option ℤ). unwrap_or number (pos 0)) found) before)

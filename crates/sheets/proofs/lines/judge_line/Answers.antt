@@ -1,10 +1,10 @@
 -- `sheets::lines::judge_line` meets its contract. Assumes nothing.
-use Rattle.std.proofs.Common.{◌≡◌, refl, ℕ, ◌+◌, Bool, true, false, cond, List, Option, Some, None, length, take, drop, length-take, sym, ap, ap₂, ◌∙◌, arith, lt-ltb, le-ltb, ltb-true}
+use Rattle.std.proofs.Common.{◌≡◌, ℕ, ◌+◌, List, Option, length, take, drop, length-take, sym, ap, ap₂, ◌∙◌, arith, lt-ltb, le-ltb, ltb-true}
 use borrow.Author.Rules.{part_to_end}
 use Rattle.sheets.specs.Text.{EQUALS, index_of}
 use Rattle.sheets.specs.List.{sheet_names, position_in}
 use Rattle.sheets.specs.Lines.{name_in, is_listed}
-use Rattle.sheets.specs.Laws.Steps.{named_line, line_read, listed_at}
+use Rattle.sheets.specs.Laws.Steps.{some_is, none_is, named_line, line_read, listed_at}
 use Rattle.sheets.specs.Laws.Text.{index_le}
 use Rattle.sheets.specs.Laws.List.{listed_many}
 use Rattle.sheets.proofs.lines.judge_line.Goals as goal
@@ -28,15 +28,6 @@ slice_bounds-judge_named-count c = omega (arith, index_le EQUALS c.args.line.now
 pub slice_bounds-judge_named-start : goal.slice_bounds-judge_named-start
 slice_bounds-judge_named-start c = omega (arith, index_le EQUALS c.args.line.now)
 
--- what finding the name tells
-not_there : (t : Bool) (n : ℕ) → cond t (Some n) None ≡ None → t ≡ false
-not_there true n e = cc
-not_there false n e = refl
-
-there : (t : Bool) (n k : ℕ) → cond t (Some n) None ≡ Some k → (t ≡ true) × (n ≡ k)
-there true n k e = (refl, cc)
-there false n k e = cc
-
 -- the name that was looked for is the line's
 named : (line : List ℕ) (n : ℕ) (r x : Option ℕ) → n ≡ index_of EQUALS line → r ≡ listed_at (take n line) → r ≡ x → listed_at (name_in line) ≡ x
 named line n r x e f g = ap (λ (i : ℕ). listed_at (take i line)) (sym e) ∙ sym f ∙ g
@@ -48,14 +39,14 @@ returns-in_default c =
     let none = named line _ _ _ c.find-equals.ensures c.name_position.ensures c.in_default.is in
     rw (
       lt-ltb (index_of EQUALS line) (length line) (omega (arith, index_le EQUALS line)),
-      not_there (is_listed (name_in line)) (position_in (name_in line) sheet_names) none,
+      none_is (is_listed (name_in line)) (position_in (name_in line) sheet_names) none,
     )
 
 pub judge_named-requires : goal.judge_named-requires
 judge_named-requires c =
     let line = c.args.line.now in
     let k = position_in (name_in line) sheet_names in
-    let some = there (is_listed (name_in line)) k c.in-Some.k (named line _ _ _ c.find-equals.ensures c.name_position.ensures c.in-Some.is) in
+    let some = some_is (is_listed (name_in line)) k c.in-Some.k (named line _ _ _ c.find-equals.ensures c.name_position.ensures c.in-Some.is) in
     omega (arith, ltb-true k (length sheet_names) some.0, some.1, listed_many)
 
 pub returns : goal.returns
@@ -65,8 +56,8 @@ returns c =
     let line = a.line.now in
     let e = c.find-equals.ensures in
     let k = position_in (name_in line) sheet_names in
-    let some = there (is_listed (name_in line)) k c.in-Some.k (named line _ _ _ e c.name_position.ensures c.in-Some.is) in
+    let some = some_is (is_listed (name_in line)) k c.in-Some.k (named line _ _ _ e c.name_position.ensures c.in-Some.is) in
     rw (lt-ltb (index_of EQUALS line) (length line) (omega (arith, index_le EQUALS line)))
     (c.judge_named.ensures
-    ∙ ap₂ (λ (j : ℕ) (text : List ℕ). named_line j text a.given) (sym some.1)
+    ∙ ap₂ (λ (j : ℕ) (text : List ℕ). named_line j text a.found.now) (sym some.1)
     (part_to_end line (c.find-equals.result + 1) ∙ ap (λ (i : ℕ). drop (i + 1) line) e))

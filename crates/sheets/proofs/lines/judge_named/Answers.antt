@@ -1,5 +1,5 @@
 -- `sheets::lines::judge_named` meets its contract. Assumes nothing.
-use Rattle.std.proofs.Common.{◌≡◌, ℕ, ℤ, ◌+◌, ◌<◌, Bool, false, List, Option, Some, None, Ok, Err, length, get_or, sym, ap, subst, ◌∙◌, arith, rules, lt-ltb}
+use Rattle.std.proofs.Common.{◌≡◌, ℕ, ℤ, ◌+◌, ◌<◌, false, is_some, List, Option, Some, None, Ok, Err, length, get_or, sym, ap, subst, ◌∙◌, arith, rules, lt-ltb}
 use Rattle.std.proofs.lemmas.Grind.{common_steps}
 use mir.Facts.{to_z-of_z}
 use Rattle.std.specs.Option.{ok_or}
@@ -12,18 +12,18 @@ use Rattle.sheets.specs.Laws.Steps.{BEYOND, named_line, number_read, line_by}
 use Rattle.sheets.specs.Laws.List.{listed_many, fields_below}
 use Rattle.sheets.proofs.lines.judge_named.Goals as goal
 
-pub returns-then-given-k : goal.returns-then-given-k
+pub returns-then-again : goal.returns-then-again
 unfolding named_line
-returns-then-given-k c = rw (lt-ltb c.args.k (length sheet_names) (omega (arith, listed_many)), c.if-given-k.true)
+returns-then-again c = rw (lt-ltb c.args.k (length sheet_names) (omega (arith, listed_many)), sym c.is_some-again.ensures ∙ c.if-again.true)
 
 pub read_number-requires : goal.read_number-requires
 read_number-requires c = subst (λ (f : Field). f.most + 1 < BEYOND) (sym c.listed_field.ensures) (fields_below c.args.k)
 
 -- where the name is not yet given, its number decides
-new_name : (k : ℕ) (text : List ℕ) (given : List Bool) (f : Field) (r : Option ℤ) → k < NUMBERS → get_or given k false ≡ false
-    → f ≡ get_or sheet_fields k no_field → r ≡ number_read f text → line_by k r ≡ named_line k text given
+new_name : (k : ℕ) (text : List ℕ) (found : List (Option ℤ)) (f : Field) (r : Option ℤ) → k < NUMBERS → is_some (get_or found k None) ≡ false
+    → f ≡ get_or sheet_fields k no_field → r ≡ number_read f text → line_by k r ≡ named_line k text found
 unfolding named_line
-new_name k text given f r h new e i =
+new_name k text found f r h new e i =
     rw (lt-ltb k (length sheet_names) (omega (arith, listed_many)), new) (ap (line_by k) (i ∙ ap (λ (x : Field). number_read x text) e))
 
 says : (k : ℕ) (r : Option ℤ) (z : ℤ) → ok_or r NUMBER ≡ Ok z → Ok (k, z) ≡ line_by k r
@@ -41,7 +41,7 @@ returns-in_err-number c =
     let e : c.from_residual.result ≡ Err n = grind (arith, common_steps) in
     e
     ∙ says_none a.k n c.read_number.result (sym c.ok_or.ensures.value ∙ c.in_err-number.was)
-    ∙ new_name a.k a.text.now a.given c.listed_field.result c.read_number.result c.requires c.if-given-k.false c.listed_field.ensures c.read_number.ensures
+    ∙ new_name a.k a.text.now a.found.now c.listed_field.result c.read_number.result c.requires (sym c.is_some-again.ensures ∙ c.if-again.false) c.listed_field.ensures c.read_number.ensures
 
 pub returns : goal.returns
 returns c =
@@ -49,4 +49,4 @@ returns c =
     let z = c.in_ok-number.number in
     ap (λ (x : ℤ). Ok (a.k, x)) (to_z-of_z {w = w64} (search rules))
     ∙ says a.k c.read_number.result z (sym c.ok_or.ensures.value ∙ c.in_ok-number.was)
-    ∙ new_name a.k a.text.now a.given c.listed_field.result c.read_number.result c.requires c.if-given-k.false c.listed_field.ensures c.read_number.ensures
+    ∙ new_name a.k a.text.now a.found.now c.listed_field.result c.read_number.result c.requires (sym c.is_some-again.ensures ∙ c.if-again.false) c.listed_field.ensures c.read_number.ensures

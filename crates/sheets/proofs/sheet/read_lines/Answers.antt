@@ -37,20 +37,17 @@ ends_at2 : (c : goal.In-Ok)
     → c.loop-at.at + c.find-end.result < length c.args.lines.now
 ends_at2 c = omega (arith, within c.loop-at.invariant c.find-end.ensures (omega arith))
 
--- only a name of the list is given
+-- only a name of the list is found
 listed : (c : goal.In-Ok) → c.in-Ok.k < NUMBERS
 listed c =
     let e = sym c.judge_line.ensures ∙ c.in-Ok.is in
     omega (arith, listed_many, given_listed c.loop-at.invariant c.find-end.ensures (ends_at2 c) e)
 
-pub offset_bounds-numbers-k : goal.offset_bounds-numbers-k
-offset_bounds-numbers-k c = omega (arith, listed c)
+pub offset_bounds-found-k : goal.offset_bounds-found-k
+offset_bounds-found-k c = omega (arith, listed c)
 
-pub bounds-numbers-k : goal.bounds-numbers-k
-bounds-numbers-k c = listed c
-
-pub bounds-given-k : goal.bounds-given-k
-bounds-given-k c = listed c
+pub bounds-found-k : goal.bounds-found-k
+bounds-found-k c = listed c
 
 pub overflow_add-at : goal.overflow_add-at
 overflow_add-at c = omega (arith, ends_at2 c)
