@@ -7,7 +7,6 @@ ghost use Rattle.sheets.specs.Laws.Steps.{digits_read, plain_read, negative_read
 
 use fields::counts::in_range;
 use fields::table::Field;
-use words::bits::magnitude;
 
 // From here on a number is out of every field's range, and is told apart no further.
 const BEYOND: u64 = 1099511627776;
@@ -110,7 +109,7 @@ pub(crate) fn put_number(out: &mut [u8], at: usize, number: i64) -> usize
 {
     if number < 0 {
         out[at] = b'-';
-        return put_decimal(out, at + 1, magnitude(number) + 1);
+        return put_decimal(out, at + 1, number.unsigned_abs());
     }
-    put_decimal(out, at, magnitude(number))
+    put_decimal(out, at, number.unsigned_abs())
 }

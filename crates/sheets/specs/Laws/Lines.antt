@@ -146,33 +146,6 @@ module _ (lines : List (List ℕ)) where
     other_names : (i : ℕ) → i < length sheet_names → (i ≡ position → ⊥) → get_or sheet_names i [] ≡ name_in line → ⊥
     other_names i below other same = other (sym (name_position i below) ∙ ap (λ (name : List ℕ). position_in name sheet_names) same)
 
-    pub given_set : set (given_in lines) position true ≡ given_in (lines ++ line ∷ [])
-    unfolding given_in
-    given_set =
-        map_set
-        (λ (name : List ℕ). is_given name lines)
-        (λ (name : List ℕ). is_given name (lines ++ line ∷ []))
-        sheet_names
-        position
-        []
-        true
-        (sym (given_by (get_or sheet_names position []) lines line its_name))
-        (λ i below other. sym (given_beside (get_or sheet_names i []) lines line (other_names i below other)))
-
-    pub numbers_set : is_given (name_in line) lines ≡ false
-        → set (numbers_in lines) position (value_in (behind_equals line)) ≡ numbers_in (lines ++ line ∷ [])
-    unfolding numbers_in
-    numbers_set new =
-        map_set
-        (λ (name : List ℕ). number_given name lines)
-        (λ (name : List ℕ). number_given name (lines ++ line ∷ []))
-        sheet_names
-        position
-        []
-        (value_in (behind_equals line))
-        (sym (number_by_lem (get_or sheet_names position []) lines line its_name (ap (λ (name : List ℕ). is_given name lines) its_name ∙ new)))
-        (λ i below other. sym (number_beside (get_or sheet_names i []) lines line (other_names i below other)))
-
 -- ---- the first that is missing
 
 pub missing_le : (given : List Bool) → first_missing given ≤ length given
