@@ -7,9 +7,12 @@ use super::number::read_number;
 use super::text::find;
 use words::refusal::{LINE, NAME, NAME_AGAIN, NUMBER};
 
+// For each name of the list the number of its line, where there was one.
+pub(crate) type Found = [Option<i64>; LISTED];
+
 // What the line of the name at a position of the list says: the position and the number, or the number of its refusal; `found` are the
 // numbers of the lines before it.
-fn judge_named(k: usize, text: &[u8], found: &[Option<i64>; 34]) -> Result<(usize, i64), u8>
+fn judge_named(k: usize, text: &[u8], found: &Found) -> Result<(usize, i64), u8>
     requires { k < LISTED }
     ensures { result ≡ named_line k text.now found.now }
 {
@@ -22,7 +25,7 @@ fn judge_named(k: usize, text: &[u8], found: &[Option<i64>; 34]) -> Result<(usiz
 }
 
 // The same of a line without its end.
-pub(crate) fn judge_line(line: &[u8], found: &[Option<i64>; 34]) -> Result<(usize, i64), u8>
+pub(crate) fn judge_line(line: &[u8], found: &Found) -> Result<(usize, i64), u8>
     ensures { result ≡ line_read line.now found.now }
 {
     let equals = find(line, b'=');

@@ -5,7 +5,8 @@ ghost use Rattle.sheets.specs.Lines.{numbers_in, lines_in, body_answer};
 ghost use Rattle.sheets.specs.Sheet.{no_sheet, sheet_by, sheet_read, before_sheet};
 ghost use Rattle.sheets.specs.Laws.Steps.{finished_sheet};
 
-use super::lines::judge_line;
+use super::lines::{Found, judge_line};
+use super::list::LISTED;
 use super::text::find;
 use super::trailer::sheet_start;
 use words::refusal::{Answer, LINE, NAME_MISSING, TRAILER, refuse};
@@ -30,17 +31,17 @@ fn no_sheet(number: u8, place: usize) -> Sheet
 }
 
 // The position of the first name without a number.
-fn first_missing(found: &[Option<i64>; 34]) -> Option<usize>
+fn first_missing(found: &Found) -> Option<usize>
     ensures { result ≡ position is_none found.now }
 {
     found.iter().position(|number| number.is_none())
 }
 
 // The numbers, with 0 for a name without one.
-fn numbers_found(found: &[Option<i64>; 34]) -> [i64; 34]
+fn numbers_found(found: &Found) -> [i64; LISTED]
     ensures { result ≡ map (λ number. unwrap_or number (pos 0)) found.now }
 {
-    let mut numbers = [0i64; 34];
+    let mut numbers = [0i64; LISTED];
     for (k, number) in found.iter().enumerate() {
         numbers[k] = number.unwrap_or(0);
     }
@@ -48,7 +49,7 @@ fn numbers_found(found: &[Option<i64>; 34]) -> [i64; 34]
 }
 
 // After the last line: the numbers, or the first name that is missing.
-fn finished_sheet(found: &[Option<i64>; 34], before: usize) -> Sheet
+fn finished_sheet(found: &Found, before: usize) -> Sheet
     ensures { result ≡ finished_sheet found.now before }
 {
     if let Some(missing) = first_missing(found) {
@@ -67,7 +68,7 @@ fn read_lines(lines: &[u8], before: usize) -> Sheet
     ensures { result ≡ sheet_by (body_answer lines.now) (numbers_in (lines_in lines.now)) before }
 {
     let mut at: usize = 0;
-    let mut found: [Option<i64>; 34] = [None; 34];
+    let mut found: Found = [None; LISTED];
     while at < lines.len() {
         let rest = &lines[at..];
         let end = find(rest, b'\n');
