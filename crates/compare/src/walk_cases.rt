@@ -5,7 +5,6 @@ use super::input::read_number;
 use super::texts::read_text;
 use super::told::{Told, is_told, read_told};
 use sheets::walk::walk_back;
-use show::same_counts;
 
 // Whether the steps so far agree, and the place where the walk is told to go on.
 #[derive(Clone, Copy)]
@@ -16,20 +15,23 @@ struct Walked {
 
 pub(crate) fn walk_agrees(base_text: &[u8], text: &mut [u8]) -> bool {
     let count = read_text(base_text, text, b' ');
-    let place = read_number(4, b' ');
+    let place = read_place(b' ');
     let steps = read_number(4, b' ');
-    count <= text.len() && steps_agree(first_bytes(text, count), place, steps)
+    match (count, steps) {
+        (Some(count), Some(steps)) => steps_agree(first_bytes(text, count), place, steps),
+        _ => false,
+    }
+}
+
+// What is no number stands for a place past every text.
+fn read_place(end: u8) -> usize {
+    read_number(4, end).unwrap_or(usize::MAX)
 }
 
 fn steps_agree(bytes: &[u8], place: usize, steps: usize) -> bool {
-    if steps > 9999 {
-        return false;
-    }
     let mut walked = Walked { agree: true, place };
-    let mut left = steps;
-    while left > 0 {
+    for left in (1..=steps).rev() {
         walked = with_step(bytes, walked, step_end(left));
-        left -= 1;
     }
     walked.agree
 }
@@ -42,10 +44,10 @@ fn step_end(left: usize) -> u8 {
 // Reads a step, and takes it.
 fn with_step(bytes: &[u8], walked: Walked, end: u8) -> Walked {
     let mut numbers = [0i64; 34];
-    let finished = read_number(1, b' ');
-    let are_numbers = read_counts(&mut numbers, 34);
+    let finished = read_finished();
+    let are_numbers = read_counts(&mut numbers);
     let told = read_told(b' ');
-    let place = read_number(4, end);
+    let place = read_place(end);
     let is_step = step_agrees(bytes, walked.place, finished, &numbers, told, place);
     Walked {
         agree: walked.agree && are_numbers && is_step,
@@ -56,7 +58,7 @@ fn with_step(bytes: &[u8], walked: Walked, end: u8) -> Walked {
 fn step_agrees(
     bytes: &[u8],
     from: usize,
-    finished: usize,
+    finished: Option<bool>,
     expected: &[i64; 34],
     told: Told,
     place: usize,
@@ -64,12 +66,16 @@ fn step_agrees(
     let step = walk_back(bytes, from);
     let answer = step.answer;
     let numbers = step.numbers;
-    is_finished(step.finished, finished)
+    Some(step.finished) == finished
         && is_told(answer, told)
         && step.place == place
-        && same_counts(&numbers, expected)
+        && numbers == *expected
 }
 
-fn is_finished(finished: bool, told: usize) -> bool {
-    if finished { told == 1 } else { told == 0 }
+fn read_finished() -> Option<bool> {
+    match read_number(1, b' ')? {
+        0 => Some(false),
+        1 => Some(true),
+        _ => None,
+    }
 }
