@@ -6,10 +6,12 @@ use super::texts::read_text;
 use super::told::{Told, is_told, read_told};
 use sheets::walk::walk_back;
 
-// Whether the steps so far agree, and the place where the walk is told to go on.
+// A step as the second program tells of it; none where the characters tell of no such thing.
 #[derive(Clone, Copy)]
-struct Walked {
-    agree: bool,
+struct ToldStep {
+    finished: Option<bool>,
+    numbers: Option<[i64; 34]>,
+    told: Told,
     place: usize,
 }
 
@@ -28,12 +30,16 @@ fn read_place(end: u8) -> usize {
     read_number(4, end).unwrap_or(usize::MAX)
 }
 
+// Each step is taken from the place where the one before is told to go on.
 fn steps_agree(bytes: &[u8], place: usize, steps: usize) -> bool {
-    let mut walked = Walked { agree: true, place };
+    let mut agree = true;
+    let mut from = place;
     for left in (1..=steps).rev() {
-        walked = with_step(bytes, walked, step_end(left));
+        let expected = read_step(step_end(left));
+        agree = step_agrees(bytes, from, &expected) && agree;
+        from = expected.place;
     }
-    walked.agree
+    agree
 }
 
 // What stands behind a step: the line's end behind the last.
@@ -41,35 +47,36 @@ fn step_end(left: usize) -> u8 {
     if left == 1 { b'\n' } else { b' ' }
 }
 
-// Reads a step, and takes it.
-fn with_step(bytes: &[u8], walked: Walked, end: u8) -> Walked {
-    let mut numbers = [0i64; 34];
+fn read_step(end: u8) -> ToldStep {
     let finished = read_finished();
-    let are_numbers = read_counts(&mut numbers);
+    let numbers = read_numbers();
     let told = read_told(b' ');
     let place = read_place(end);
-    let is_step = step_agrees(bytes, walked.place, finished, &numbers, told, place);
-    Walked {
-        agree: walked.agree && are_numbers && is_step,
+    ToldStep {
+        finished,
+        numbers,
+        told,
         place,
     }
 }
 
-fn step_agrees(
-    bytes: &[u8],
-    from: usize,
-    finished: Option<bool>,
-    expected: &[i64; 34],
-    told: Told,
-    place: usize,
-) -> bool {
+fn read_numbers() -> Option<[i64; 34]> {
+    let mut numbers = [0i64; 34];
+    if read_counts(&mut numbers) {
+        Some(numbers)
+    } else {
+        None
+    }
+}
+
+fn step_agrees(bytes: &[u8], from: usize, expected: &ToldStep) -> bool {
     let step = walk_back(bytes, from);
     let answer = step.answer;
     let numbers = step.numbers;
-    Some(step.finished) == finished
-        && is_told(answer, told)
-        && step.place == place
-        && numbers == *expected
+    Some(step.finished) == expected.finished
+        && is_told(answer, expected.told)
+        && step.place == expected.place
+        && Some(numbers) == expected.numbers
 }
 
 fn read_finished() -> Option<bool> {
