@@ -1,19 +1,17 @@
 -- THEOREMS: what a caller in another language relies on, said of what the calls return: with the stated lengths they answer as the library
 -- does, a refusal leaves what is lent, good contents and no others are built, what is built or written is read, and demand 3.
 -- Assumes nothing.
-use Rattle.std.specs.Prelude.{◌≡◌, refl, Bool, true, false, ◌&&◌, List, [], ◌∷◌, ◌↔◌, ℕ, ◌/◌, ◌≤◌, ◌<◌, eqb, leb, ltb, ℤ, pos, negsuc, length, get_or, drop, take}
+use Rattle.std.specs.Prelude.{◌≡◌, refl, Bool, true, false, ◌&&◌, List, [], ◌∷◌, ◌↔◌, ℕ, ◌/◌, ◌≤◌, ◌<◌, eqb, leb, ltb, ℤ, pos, negsuc, length, get_or, drop, take, Err, Ok}
 use Rattle.std.proofs.Common.{sym, ap, ◌∙◌, subst, arith, length-drop, length-take, eqb-true, eq-eqb, leb-true, lt-ltb}
 use Rattle.std.proofs.Math.Bool.{and-eq-true_iff}
 use Rattle.words.specs.Bits.{IsBits, first_not_bit}
-use Rattle.words.specs.Refusal.{LENGTH, TIME, refused_at, done_if, left_by}
+use Rattle.words.specs.Refusal.{LENGTH, TIME, refused_at, done_if, left_by, Answer, Done, answer_of}
 use Rattle.words.specs.Sums.{weight}
 use Rattle.words.specs.Time.{LAST_TOI, time_is}
 use Rattle.words.specs.declared.time.Time.{Time}
 use Rattle.words.specs.Unchanged.{Refuses, refused_by_answer}
 use Rattle.words.specs.Laws.Digits.{bits_none}
 use Rattle.words.specs.Laws.Turns.{both_done, test_done, judged_done}
-use Rattle.words.specs.declared.refusal.Answer.{Answer}
-use Rattle.words.specs.declared.refusal.Answer.TheVariants.{Done, Refused}
 use Rattle.fields.specs.Subframe2.{COUNTS_2}
 use Rattle.fields.specs.Pages.{PAGE_BITS}
 use Rattle.tables.specs.declared.matrix.Subframe.TheVariants.{Two, Three}
@@ -45,27 +43,27 @@ as_stated lengths a e = ap (λ (t : Bool). lent_answer t a) e
 
 -- With 34 numbers and 250 page bits lent, l1c_read answers what reading the frame does.
 pub read_as : (f : List ℕ) (zs : List ℤ) (page : List ℕ) → length zs ≡ NUMBERS → length page ≡ PAGE_BITS
-    → read_call f zs page ≡ (frame_read f).answer
+    → read_call f zs page ≡ answer_of (frame_read f)
 read_as f zs page many long =
-    as_stated (eqb (length zs) NUMBERS && eqb (length page) PAGE_BITS) (frame_read f).answer
+    as_stated (eqb (length zs) NUMBERS && eqb (length page) PAGE_BITS) (answer_of (frame_read f))
     (rw (eq-eqb (length zs) NUMBERS many, eq-eqb (length page) PAGE_BITS long) refl)
 
 -- With two numbers lent, l1c_read_time answers what reading the time alone does.
-pub time_as : (f time : List ℕ) → length time ≡ 2 → time_call f time ≡ (time_alone f).answer
-time_as f time two = as_stated (eqb (length time) 2) (time_alone f).answer (eq-eqb (length time) 2 two)
+pub time_as : (f time : List ℕ) → length time ≡ 2 → time_call f time ≡ answer_of (time_alone f)
+time_as f time two = as_stated (eqb (length time) 2) (answer_of (time_alone f)) (eq-eqb (length time) 2 two)
 
 -- With 33 counts lent, l1c_read_subframe2 answers what reading subframe 2 alone does.
-pub subframe2_as : (f : List ℕ) (zs : List ℤ) → length zs ≡ COUNTS_2 → subframe2_call f zs ≡ (subframe2_alone f).answer
-subframe2_as f zs many = as_stated (eqb (length zs) COUNTS_2) (subframe2_alone f).answer (eq-eqb (length zs) COUNTS_2 many)
+pub subframe2_as : (f : List ℕ) (zs : List ℤ) → length zs ≡ COUNTS_2 → subframe2_call f zs ≡ answer_of (subframe2_alone f)
+subframe2_as f zs many = as_stated (eqb (length zs) COUNTS_2) (answer_of (subframe2_alone f)) (eq-eqb (length zs) COUNTS_2 many)
 
 -- With 250 page bits lent, l1c_read_subframe3 answers what reading subframe 3 alone does.
-pub subframe3_as : (f page : List ℕ) → length page ≡ PAGE_BITS → subframe3_call f page ≡ (subframe3_alone f).answer
-subframe3_as f page long = as_stated (eqb (length page) PAGE_BITS) (subframe3_alone f).answer (eq-eqb (length page) PAGE_BITS long)
+pub subframe3_as : (f page : List ℕ) → length page ≡ PAGE_BITS → subframe3_call f page ≡ answer_of (subframe3_alone f)
+subframe3_as f page long = as_stated (eqb (length page) PAGE_BITS) (answer_of (subframe3_alone f)) (eq-eqb (length page) PAGE_BITS long)
 
 -- With fewer than 2^32 bytes and 34 numbers lent, l1c_read_sheet answers what reading the sheet does.
-pub sheet_as : (s : List ℕ) (zs : List ℤ) → length s < HALF → length zs ≡ NUMBERS → sheet_call s zs ≡ (sheet_read s).answer
+pub sheet_as : (s : List ℕ) (zs : List ℤ) → length s < HALF → length zs ≡ NUMBERS → sheet_call s zs ≡ answer_of (sheet_read s)
 sheet_as s zs short many =
-    as_stated (ltb (length s) HALF && eqb (length zs) NUMBERS) (sheet_read s).answer
+    as_stated (ltb (length s) HALF && eqb (length zs) NUMBERS) (answer_of (sheet_read s))
     (rw (lt-ltb (length s) HALF short, eq-eqb (length zs) NUMBERS many) refl)
 
 -- ---- a refusal
@@ -78,8 +76,8 @@ refuses : (a : Answer) (said : ℕ) → Reports (code_of a said) a said → IsRe
 refuses a said told h e = h (told.number ∙ e)
 
 numbers_stay : (a : Answer) (new zs : List ℤ) → Refuses a → numbers_left a new zs ≡ zs
-numbers_stay Done new zs h = absurd (h refl)
-numbers_stay (Refused r) new zs h = refl
+numbers_stay (Ok tt) new zs h = absurd (h refl)
+numbers_stay (Err r) new zs h = refl
 
 -- Where l1c_build refuses, the frame is as it was.
 pub build_stays : (zs : List ℤ) (page out : List ℕ) → IsRefused (code_of (build_call zs page out) 0) → build_call_frame zs page out ≡ out
@@ -88,41 +86,41 @@ build_stays zs page out h =
     (refuses (build_call zs page out) 0 (build_told zs page out) h)
 
 -- Where l1c_read refuses, the numbers and the page are as they were.
-pub read_stays : (f : List ℕ) (zs : List ℤ) (page : List ℕ) → IsRefused (code_of (read_call f zs page) (frame_read f).corrected)
+pub read_stays : (f : List ℕ) (zs : List ℤ) (page : List ℕ) → IsRefused (code_of (read_call f zs page) (frame_corrected (frame_read f)))
     → (read_call_numbers f zs page ≡ zs) × (read_call_page f zs page ≡ page)
 read_stays f zs page h =
-    let r = refuses (read_call f zs page) (frame_read f).corrected (read_told f zs page) h in (
-      numbers_stay (read_call f zs page) (pos (frame_read f).toi ∷ (frame_read f).counts) zs r,
-      refused_by_answer (read_call f zs page) (frame_read f).page page r,
+    let r = refuses (read_call f zs page) (frame_corrected (frame_read f)) (read_told f zs page) h in (
+      numbers_stay (read_call f zs page) (frame_numbers (frame_read f)) zs r,
+      refused_by_answer (read_call f zs page) (frame_page (frame_read f)) page r,
     )
 
 -- Where l1c_read_time refuses, the two numbers are as they were.
 pub time_stays : (f time : List ℕ) → IsRefused (code_of (time_call f time) 0) → time_call_time f time ≡ time
 time_stays f time h =
-    refused_by_answer (time_call f time) ((time_alone f).toi ∷ (time_alone f).corrected ∷ []) time
+    refused_by_answer (time_call f time) (time_numbers (time_alone f)) time
     (refuses (time_call f time) 0 (time_told f time) h)
 
 -- Where l1c_read_subframe2 refuses, the counts are as they were.
 pub subframe2_stays : (f : List ℕ) (zs : List ℤ) → IsRefused (code_of (subframe2_call f zs) 0) → subframe2_call_counts f zs ≡ zs
 subframe2_stays f zs h =
-    numbers_stay (subframe2_call f zs) (subframe2_alone f).counts zs (refuses (subframe2_call f zs) 0 (subframe2_told f zs) h)
+    numbers_stay (subframe2_call f zs) (list_given (subframe2_alone f)) zs (refuses (subframe2_call f zs) 0 (subframe2_told f zs) h)
 
 -- Where l1c_read_subframe3 refuses, the page is as it was.
 pub subframe3_stays : (f page : List ℕ) → IsRefused (code_of (subframe3_call f page) 0) → subframe3_call_page f page ≡ page
 subframe3_stays f page h =
-    refused_by_answer (subframe3_call f page) (subframe3_alone f).page page (refuses (subframe3_call f page) 0 (subframe3_told f page) h)
+    refused_by_answer (subframe3_call f page) (list_given (subframe3_alone f)) page (refuses (subframe3_call f page) 0 (subframe3_told f page) h)
 
 -- Where l1c_read_sheet refuses, the numbers are as they were.
-pub sheet_stays : (s : List ℕ) (zs : List ℤ) → IsRefused (code_of (sheet_call s zs) (sheet_read s).before) → sheet_call_numbers s zs ≡ zs
+pub sheet_stays : (s : List ℕ) (zs : List ℤ) → IsRefused (code_of (sheet_call s zs) (sheet_before (sheet_read s))) → sheet_call_numbers s zs ≡ zs
 sheet_stays s zs h =
-    numbers_stay (sheet_call s zs) (sheet_read s).numbers zs (refuses (sheet_call s zs) (sheet_read s).before (sheet_told s zs) h)
+    numbers_stay (sheet_call s zs) (sheet_numbers (sheet_read s)) zs (refuses (sheet_call s zs) (sheet_before (sheet_read s)) (sheet_told s zs) h)
 
 -- Where l1c_write_sheet refuses, the bytes are as they were.
-pub written_stays : (zs : List ℤ) (out : List ℕ) → IsRefused (code_of (sheet_written zs out).answer (sheet_written zs out).size)
+pub written_stays : (zs : List ℤ) (out : List ℕ) → IsRefused (code_of (answer_of (sheet_written zs out)) (size_written (sheet_written zs out)))
     → written_bytes zs out ≡ out
 written_stays zs out h =
     write_unchanged zs out
-    (subst Refuses (written_answer zs out) (refuses (sheet_written zs out).answer (sheet_written zs out).size (written_told zs out) h))
+    (subst Refuses (written_answer zs out) (refuses (answer_of (sheet_written zs out)) (size_written (sheet_written zs out)) (written_told zs out) h))
 
 -- ---- building
 
@@ -218,11 +216,11 @@ built_is_right zs page out e = (
 pub built_is_read : (zs others : List ℤ) (page bits out : List ℕ) → build_call zs page out ≡ Done → length others ≡ NUMBERS
     → length bits ≡ PAGE_BITS
     → (read_call (build_call_frame zs page out) others bits ≡ Done)
-    × ((frame_read (build_call_frame zs page out)).corrected ≡ 0)
+    × (frame_corrected (frame_read (build_call_frame zs page out)) ≡ 0)
     × (read_call_numbers (build_call_frame zs page out) others bits ≡ zs)
     × (read_call_page (build_call_frame zs page out) others bits ≡ page)
 built_is_read zs others page bits out e many long =
-    (read_done, ap (λ (x : Frame). x.corrected) found, numbers, ap (λ (a : Answer). left_by a (frame_read f).page bits) read_done ∙ ap (λ (x : Frame). x.page) found)
+    (read_done, ap (λ (x : Frame). x.corrected) found, numbers, ap (λ (a : Answer). left_by a (frame_page (frame_read f)) bits) read_done ∙ ap (λ (x : Frame). x.page) found)
   where
     f : List ℕ
     f = build_call_frame zs page out
@@ -231,35 +229,35 @@ built_is_read zs others page bits out e many long =
     found = ap frame_read (built_frame zs page out e) ∙ read_built (contents_given zs page) (built_good zs page out e)
 
     read_done : read_call f others bits ≡ Done
-    read_done = read_as f others bits many long ∙ ap (λ (x : Frame). x.answer) found
+    read_done = read_as f others bits many long ∙ ap (λ (x : Frame). answer_of x) found
 
     numbers : read_call_numbers f others bits ≡ zs
     numbers =
-        ap (λ (a : Answer). numbers_left a (pos (frame_read f).toi ∷ (frame_read f).counts) others) read_done
+        ap (λ (a : Answer). numbers_left a (frame_numbers (frame_read f)) others) read_done
         ∙ ap (λ (x : Frame). pos x.toi ∷ x.counts) found ∙ built_numbers zs page out e
 
 -- What l1c_write_sheet wrote, l1c_read_sheet reads into any 34 numbers: the same numbers, and nothing stands before the sheet.
-pub written_is_read : (zs others : List ℤ) (out : List ℕ) → (sheet_written zs out).answer ≡ Done → length others ≡ NUMBERS
-    → (sheet_call (take (sheet_written zs out).size (written_bytes zs out)) others ≡ Done)
-    × ((sheet_read (take (sheet_written zs out).size (written_bytes zs out))).before ≡ 0)
-    × (sheet_call_numbers (take (sheet_written zs out).size (written_bytes zs out)) others ≡ zs)
+pub written_is_read : (zs others : List ℤ) (out : List ℕ) → answer_of (sheet_written zs out) ≡ Done → length others ≡ NUMBERS
+    → (sheet_call (take (size_written (sheet_written zs out)) (written_bytes zs out)) others ≡ Done)
+    × (sheet_before (sheet_read (take (sheet_written zs out).size (written_bytes zs out))) ≡ 0)
+    × (sheet_call_numbers (take (size_written (sheet_written zs out)) (written_bytes zs out)) others ≡ zs)
 written_is_read zs others out e many = (
   read_done,
   ap (λ (x : Sheet). x.before) found,
-  ap (λ (a : Answer). numbers_left a (sheet_read s).numbers others) read_done ∙ ap (λ (x : Sheet). x.numbers) found,
+  ap (λ (a : Answer). numbers_left a (sheet_numbers (sheet_read s)) others) read_done ∙ ap (λ (x : Sheet). x.numbers) found,
 )
   where
     s : List ℕ
-    s = take (sheet_written zs out).size (written_bytes zs out)
+    s = take (size_written (sheet_written zs out)) (written_bytes zs out)
 
     found : sheet_read s ≡ sheet_is zs 0
     found = (written_read zs out (sym (written_answer zs out) ∙ e)).0
 
     short : length s < HALF
-    short = omega (arith, length-take (sheet_written zs out).size (written_bytes zs out), written_few zs out e)
+    short = omega (arith, length-take (size_written (sheet_written zs out)) (written_bytes zs out), written_few zs out e)
 
     read_done : sheet_call s others ≡ Done
-    read_done = sheet_as s others short many ∙ ap (λ (x : Sheet). x.answer) found
+    read_done = sheet_as s others short many ∙ ap (λ (x : Sheet). answer_of x) found
 
 -- ---- demand 3, of any frame that l1c_build built and any of its symbols turned
 
@@ -270,7 +268,7 @@ pub time_is_sent : (zs : List ℤ) (page out t time : List ℕ) → build_call z
     × (time_call_time (turned (build_call_frame zs page out) t) time ≡ toi_of (get_or zs 0 (pos 0)) ∷ weight (time_in t) ∷ [])
 time_is_sent zs page out t time e flags few two = (
   done,
-  ap (λ (a : Answer). left_by a ((time_alone f).toi ∷ (time_alone f).corrected ∷ []) time) done
+  ap (λ (a : Answer). left_by a (time_numbers (time_alone f)) time) done
       ∙ ap (λ (x : Time). x.toi ∷ x.corrected ∷ []) found,
 )
   where
@@ -283,7 +281,7 @@ time_is_sent zs page out t time e flags few two = (
         ∙ time_borne (contents_given zs page) t (built_good zs page out e) flags few
 
     done : time_call f time ≡ Done
-    done = time_as f time two ∙ ap (λ (x : Time). x.answer) found
+    done = time_as f time two ∙ ap (λ (x : Time). answer_of x) found
 
 lent_refuses : (lengths : Bool) (a : Answer) → Refuses a → Refuses (lent_answer lengths a)
 lent_refuses true a h = h
@@ -297,8 +295,8 @@ pub noticed_by_2 : (zs counts : List ℤ) (page out t : List ℕ) → build_call
     → NamedDamage (data_in Two t) → IsRefused (code_of (subframe2_call (turned (build_call_frame zs page out) t) counts) 0)
 noticed_by_2 zs counts page out t e flags some how =
     let f = turned (build_call_frame zs page out) t in
-    reported (subframe2_call f counts) (subframe2_told f counts) (lent_refuses (eqb (length counts) COUNTS_2) (subframe2_alone f).answer
-    (subst (λ (x : List ℕ). Refuses (subframe2_alone (turned x t)).answer) (sym (built_frame zs page out e))
+    reported (subframe2_call f counts) (subframe2_told f counts) (lent_refuses (eqb (length counts) COUNTS_2) (answer_of (subframe2_alone f))
+    (subst (λ (x : List ℕ). Refuses (answer_of (subframe2_alone (turned x t)))) (sym (built_frame zs page out e))
     (noticed_2 (contents_given zs page) t (built_good zs page out e) flags some how)))
 
 -- The same of subframe 3 and l1c_read_subframe3.
@@ -306,6 +304,6 @@ pub noticed_by_3 : (zs : List ℤ) (page bits out t : List ℕ) → build_call z
     → NamedDamage (data_in Three t) → IsRefused (code_of (subframe3_call (turned (build_call_frame zs page out) t) bits) 0)
 noticed_by_3 zs page bits out t e flags some how =
     let f = turned (build_call_frame zs page out) t in
-    reported (subframe3_call f bits) (subframe3_told f bits) (lent_refuses (eqb (length bits) PAGE_BITS) (subframe3_alone f).answer
-    (subst (λ (x : List ℕ). Refuses (subframe3_alone (turned x t)).answer) (sym (built_frame zs page out e))
+    reported (subframe3_call f bits) (subframe3_told f bits) (lent_refuses (eqb (length bits) PAGE_BITS) (answer_of (subframe3_alone f))
+    (subst (λ (x : List ℕ). Refuses (answer_of (subframe3_alone (turned x t)))) (sym (built_frame zs page out e))
     (noticed_3 (contents_given zs page) t (built_good zs page out e) flags some how)))

@@ -1,11 +1,9 @@
 -- The calls (include/l1c.h): what each answers, and what is left in the memory lent to it. Numbers are 34, toi's first. A lent slice of
 -- another length than stated is 1 at 0, first; on a refusal all lent memory stays.
 -- Assumes nothing.
-use Rattle.std.specs.Prelude.{Bool, ◌&&◌, List, [], ◌∷◌, ℕ, ◌+◌, min, eqb, ltb, ℤ, pos, negsuc, length, get_or, drop}
-use Rattle.words.specs.Refusal.{LENGTH, done_if, in_turn, left_by}
+use Rattle.std.specs.Prelude.{Bool, ◌&&◌, List, [], ◌∷◌, ℕ, ◌+◌, min, eqb, ltb, ℤ, pos, negsuc, length, get_or, drop, Err, Ok}
+use Rattle.words.specs.Refusal.{LENGTH, done_if, in_turn, left_by, Answer, answer_of}
 use Rattle.words.specs.Time.{LAST_TOI}
-use Rattle.words.specs.declared.refusal.Answer.{Answer}
-use Rattle.words.specs.declared.refusal.Answer.TheVariants.{Done, Refused}
 use Rattle.fields.specs.Subframe2.{COUNTS_2}
 use Rattle.fields.specs.Pages.{PAGE_BITS}
 use Rattle.frames.specs.Frame.{Contents, frame_of}
@@ -21,8 +19,8 @@ lent_answer lengths answer = in_turn (done_if lengths LENGTH 0) answer
 
 -- what is then left in lent numbers: the new ones where nothing is refused, and else the numbers as they were
 abbrev pub numbers_left : Answer → List ℤ → List ℤ → List ℤ
-numbers_left Done new zs = new
-numbers_left (Refused r) new zs = zs
+numbers_left (Ok tt) new zs = new
+numbers_left (Err r) new zs = zs
 
 -- ---- building
 
@@ -46,40 +44,40 @@ build_call_frame zs page out = left_by (build_call zs page out) (frame_of (conte
 
 -- l1c_read; it says how many time symbols were corrected
 abbrev pub read_call : List ℕ → List ℤ → List ℕ → Answer
-read_call f zs page = lent_answer (eqb (length zs) NUMBERS && eqb (length page) PAGE_BITS) (frame_read f).answer
+read_call f zs page = lent_answer (eqb (length zs) NUMBERS && eqb (length page) PAGE_BITS) (answer_of (frame_read f))
 
 abbrev pub read_call_numbers : List ℕ → List ℤ → List ℕ → List ℤ
-read_call_numbers f zs page = numbers_left (read_call f zs page) (pos (frame_read f).toi ∷ (frame_read f).counts) zs
+read_call_numbers f zs page = numbers_left (read_call f zs page) (frame_numbers (frame_read f)) zs
 
 abbrev pub read_call_page : List ℕ → List ℤ → List ℕ → List ℕ
-read_call_page f zs page = left_by (read_call f zs page) (frame_read f).page page
+read_call_page f zs page = left_by (read_call f zs page) (frame_page (frame_read f)) page
 
 -- l1c_read_time; it hands back toi and how many symbols were corrected
 abbrev pub time_call : List ℕ → List ℕ → Answer
-time_call f time = lent_answer (eqb (length time) 2) (time_alone f).answer
+time_call f time = lent_answer (eqb (length time) 2) (answer_of (time_alone f))
 
 abbrev pub time_call_time : List ℕ → List ℕ → List ℕ
-time_call_time f time = left_by (time_call f time) ((time_alone f).toi ∷ (time_alone f).corrected ∷ []) time
+time_call_time f time = left_by (time_call f time) (time_numbers (time_alone f)) time
 
 -- l1c_read_subframe2
 abbrev pub subframe2_call : List ℕ → List ℤ → Answer
-subframe2_call f zs = lent_answer (eqb (length zs) COUNTS_2) (subframe2_alone f).answer
+subframe2_call f zs = lent_answer (eqb (length zs) COUNTS_2) (answer_of (subframe2_alone f))
 
 abbrev pub subframe2_call_counts : List ℕ → List ℤ → List ℤ
-subframe2_call_counts f zs = numbers_left (subframe2_call f zs) (subframe2_alone f).counts zs
+subframe2_call_counts f zs = numbers_left (subframe2_call f zs) (list_given (subframe2_alone f)) zs
 
 -- l1c_read_subframe3
 abbrev pub subframe3_call : List ℕ → List ℕ → Answer
-subframe3_call f page = lent_answer (eqb (length page) PAGE_BITS) (subframe3_alone f).answer
+subframe3_call f page = lent_answer (eqb (length page) PAGE_BITS) (answer_of (subframe3_alone f))
 
 abbrev pub subframe3_call_page : List ℕ → List ℕ → List ℕ
-subframe3_call_page f page = left_by (subframe3_call f page) (subframe3_alone f).page page
+subframe3_call_page f page = left_by (subframe3_call f page) (list_given (subframe3_alone f)) page
 
 -- ---- sheets; l1c_write_sheet answers and leaves what writing a sheet does
 
 -- l1c_read_sheet; it says how many bytes stand before the sheet, so the lent bytes are fewer than 2^32
 abbrev pub sheet_call : List ℕ → List ℤ → Answer
-sheet_call s zs = lent_answer (ltb (length s) HALF && eqb (length zs) NUMBERS) (sheet_read s).answer
+sheet_call s zs = lent_answer (ltb (length s) HALF && eqb (length zs) NUMBERS) (answer_of (sheet_read s))
 
 abbrev pub sheet_call_numbers : List ℕ → List ℤ → List ℤ
-sheet_call_numbers s zs = numbers_left (sheet_call s zs) (sheet_read s).numbers zs
+sheet_call_numbers s zs = numbers_left (sheet_call s zs) (sheet_numbers (sheet_read s)) zs

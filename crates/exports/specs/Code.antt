@@ -1,10 +1,8 @@
 -- What a call returns (include/l1c.h): in the high 32 bits the refusal's number, 0 where nothing is refused; in the low 32 bits the refusal's
 -- place, or what the call says.
 -- Assumes nothing.
-use Rattle.std.specs.Prelude.{◌≡◌, ℕ, ◌+◌, ◌*◌, ◌/◌, ◌%◌}
-use Rattle.words.specs.Refusal.{number_of}
-use Rattle.words.specs.declared.refusal.Answer.{Answer}
-use Rattle.words.specs.declared.refusal.Answer.TheVariants.{Done, Refused}
+use Rattle.std.specs.Prelude.{◌≡◌, ℕ, ◌+◌, ◌*◌, ◌/◌, ◌%◌, Err, Ok}
+use Rattle.words.specs.Refusal.{number_of, Answer, Done}
 
 -- 2^32: what one stands for in the high 32 bits
 abbrev pub HALF : ℕ
@@ -16,13 +14,13 @@ refusal_code number place = number * HALF + place % HALF
 
 -- an answer, and what is said where nothing is refused
 abbrev pub code_of : Answer → ℕ → ℕ
-code_of Done said = said
-code_of (Refused r) said = refusal_code r.number r.place
+code_of (Ok tt) said = said
+code_of (Err r) said = refusal_code r.number r.place
 
 -- what the low 32 bits are for: the place of a refusal, or what is said
 abbrev pub low_of : Answer → ℕ → ℕ
-low_of Done said = said
-low_of (Refused r) said = r.place
+low_of (Ok tt) said = said
+low_of (Err r) said = r.place
 
 -- what is returned reports an answer: the high half is its number, which is 0 only where nothing is refused, and the low half its place, or
 -- what is said

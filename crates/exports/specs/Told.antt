@@ -1,14 +1,12 @@
 -- THEOREMS: what each call returns reports its answer, the refusal's number and place or what the call says, whatever is lent.
 -- Assumes nothing.
-use Rattle.std.specs.Prelude.{◌≡◌, Bool, true, ◌&&◌, List, ℕ, ◌≤◌, ◌<◌, eqb, ltb, ℤ, length}
+use Rattle.std.specs.Prelude.{◌≡◌, Bool, true, ◌&&◌, List, ℕ, ◌≤◌, ◌<◌, eqb, ltb, ℤ, length, Err, Ok}
 use Rattle.std.proofs.Common.{sym, subst, arith, ltb-true}
 use Rattle.std.proofs.Math.Bool.{and-eq-true_iff}
-use Rattle.words.specs.Refusal.{LENGTH, done_if}
+use Rattle.words.specs.Refusal.{LENGTH, done_if, Answer, answer_of}
 use Rattle.words.specs.Time.{time_read, time_is}
 use Rattle.words.specs.Laws.Judged.{Judged, wrong_length, wrong_byte, time_missing, a_time, judged}
 use Rattle.words.specs.Laws.Turns.{both_done, test_done}
-use Rattle.words.specs.declared.refusal.Answer.{Answer}
-use Rattle.words.specs.declared.refusal.Answer.TheVariants.{Done, Refused}
 use Rattle.words.specs.declared.time.Time.{Time}
 use Rattle.tables.specs.declared.matrix.Subframe.TheVariants.{Two, Three}
 use Rattle.fields.specs.Subframe2.{COUNTS_2}
@@ -43,10 +41,10 @@ build_told zs page out =
 
 -- l1c_read: the answer, and how many time symbols were corrected.
 pub read_told : (f : List ℕ) (zs : List ℤ) (page : List ℕ)
-    → Reports (code_of (read_call f zs page) (frame_read f).corrected) (read_call f zs page) (frame_read f).corrected
+    → Reports (code_of (read_call f zs page) (frame_corrected (frame_read f))) (read_call f zs page) (frame_corrected (frame_read f))
 read_told f zs page =
     let lengths = eqb (length zs) NUMBERS && eqb (length page) PAGE_BITS in
-    code_reports (read_call f zs page) (frame_read f).corrected (lent_codable lengths (frame_read f).answer (read_codable f))
+    code_reports (read_call f zs page) (frame_corrected (frame_read f)) (lent_codable lengths (answer_of (frame_read f)) (read_codable f))
     (λ e. omega (arith, few (frame_answer f)))
   where
     word_few : (time_read (time_in f)).corrected ≤ 9
@@ -62,12 +60,12 @@ read_told f zs page =
         go (a_time l b toi places t r) = is (time_is toi places) r t.near
 
     few : (a : Answer) → (frame_by a (contents_in f) (time_read (time_in f)).corrected).corrected ≤ 9
-    few Done = word_few
-    few (Refused r) = omega arith
+    few (Ok tt) = word_few
+    few (Err r) = omega arith
 
 -- l1c_read_time: the answer.
 pub time_told : (f time : List ℕ) → Reports (code_of (time_call f time) 0) (time_call f time) 0
-time_told f time = told_0 (eqb (length time) 2) (time_alone f).answer (time_alone_codable f)
+time_told f time = told_0 (eqb (length time) 2) (answer_of (time_alone f)) (time_alone_codable f)
 
 -- l1c_read_subframe2: the answer.
 pub subframe2_told : (f : List ℕ) (zs : List ℤ) → Reports (code_of (subframe2_call f zs) 0) (subframe2_call f zs) 0
@@ -78,11 +76,11 @@ pub subframe3_told : (f page : List ℕ) → Reports (code_of (subframe3_call f 
 subframe3_told f page = told_0 (eqb (length page) PAGE_BITS) (alone_answer Three f) (alone_codable Three f)
 
 -- l1c_read_sheet: the answer, and how many bytes stand before the sheet.
-pub sheet_told : (s : List ℕ) (zs : List ℤ) → Reports (code_of (sheet_call s zs) (sheet_read s).before) (sheet_call s zs) (sheet_read s).before
+pub sheet_told : (s : List ℕ) (zs : List ℤ) → Reports (code_of (sheet_call s zs) (sheet_before (sheet_read s))) (sheet_call s zs) (sheet_before (sheet_read s))
 unfolding sheet_read
 sheet_told s zs =
-    code_reports (sheet_call s zs) (sheet_read s).before (lent_codable lengths (sheet_read s).answer (sheet_codable s))
-    (λ e. omega (arith, few (sheet_answer s), short (test_done lengths LENGTH 0 (both_done (done_if lengths LENGTH 0) (sheet_read s).answer e).0)))
+    code_reports (sheet_call s zs) (sheet_before (sheet_read s)) (lent_codable lengths (answer_of (sheet_read s)) (sheet_codable s))
+    (λ e. omega (arith, few (sheet_answer s), short (test_done lengths LENGTH 0 (both_done (done_if lengths LENGTH 0) (answer_of (sheet_read s)) e).0)))
   where
     lengths : Bool
     lengths = ltb (length s) HALF && eqb (length zs) NUMBERS
@@ -91,11 +89,11 @@ sheet_told s zs =
     short e = ltb-true (length s) HALF ((and-eq-true_iff (ltb (length s) HALF) (eqb (length zs) NUMBERS)).0 e).0
 
     few : (a : Answer) → (sheet_by a (numbers_in (lines_in (lines_bytes s))) (start_of s)).before ≤ length s
-    few Done = start_within s
-    few (Refused r) = omega arith
+    few (Ok tt) = start_within s
+    few (Err r) = omega arith
 
 -- l1c_write_sheet: the answer, and the sheet's length.
 pub written_told : (zs : List ℤ) (out : List ℕ)
-    → Reports (code_of (sheet_written zs out).answer (sheet_written zs out).size) (sheet_written zs out).answer (sheet_written zs out).size
+    → Reports (code_of (answer_of (sheet_written zs out)) (size_written (sheet_written zs out))) (answer_of (sheet_written zs out)) (size_written (sheet_written zs out))
 written_told zs out =
-    code_reports (sheet_written zs out).answer (sheet_written zs out).size (written_codable zs out) (λ e. omega (arith, written_few zs out e))
+    code_reports (answer_of (sheet_written zs out)) (size_written (sheet_written zs out)) (written_codable zs out) (λ e. omega (arith, written_few zs out e))

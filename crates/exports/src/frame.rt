@@ -1,17 +1,16 @@
 // Frames: building them, and reading them whole or in part.
 ghost use Rattle.std.specs.Prelude.{◌≡◌, ◌&&◌, eqb};
 ghost use Rattle.fields.specs.Pages.{PAGE_BITS};
-ghost use Rattle.frames.specs.Read.{frame_read};
+ghost use Rattle.frames.specs.Read.{frame_read, frame_corrected};
 ghost use Rattle.sheets.specs.List.{NUMBERS};
 ghost use Rattle.exports.specs.Code.{code_of};
 ghost use Rattle.exports.specs.Calls.{build_call, build_call_frame, read_call, read_call_numbers, read_call_page, time_call, time_call_time, subframe2_call, subframe2_call_counts, subframe3_call, subframe3_call_page};
 
-use super::code::{code_of, refusal_code};
-use super::lent::{LISTED, copy_numbers, put_numbers, toi_of};
+use super::code::refusal_code;
+use super::lent::{LISTED, put_numbers, toi_of};
 use frames::build::build;
 use frames::read::{read, read_subframe2, read_subframe3, read_time};
-use words::bits::copy;
-use words::refusal::{Answer, LENGTH};
+use words::refusal::Rule;
 
 // Builds the frame of 34 numbers, toi's first, and 250 page bits into 1800 bytes. Refused 1, 2 (page bits), 3, 6, 9.
 pub fn l1c_build(contents: &[i64], page: &[u8], frame: &mut [u8]) -> u64
@@ -19,44 +18,39 @@ pub fn l1c_build(contents: &[i64], page: &[u8], frame: &mut [u8]) -> u64
         × (frame.new ≡ build_call_frame contents.now page.now frame.old) }
 {
     if contents.len() != LISTED {
-        return refusal_code(LENGTH, 0);
+        return refusal_code(Rule::Length.at(0));
     }
     let toi = toi_of(contents[0]);
-    let answer = build(toi, &contents[1..], page, frame);
-    code_of(answer, 0)
+    match build(toi, &contents[1..], page, frame) {
+        Ok(()) => 0,
+        Err(refusal) => refusal_code(refusal),
+    }
 }
 
 // The numbers and the page bits are as many as they must be.
 fn has_room(numbers: usize, page: usize) -> bool
     ensures { result ≡ (eqb numbers NUMBERS && eqb page PAGE_BITS) }
 {
-    if numbers != LISTED {
-        return false;
-    }
-    page == 250
+    numbers == LISTED && page == 250
 }
 
 // Reads a frame into 34 numbers, toi's first, and 250 page bits, and says how many time symbols were corrected. Refused 1, 2, then 3, then
 // 4 5 6, then 7 8 9.
 pub fn l1c_read(frame: &[u8], contents: &mut [i64], page: &mut [u8]) -> u64
-    ensures { (result ≡ code_of (read_call frame.now contents.old page.old) (frame_read frame.now).corrected)
+    ensures { (result ≡ code_of (read_call frame.now contents.old page.old) (frame_corrected (frame_read frame.now)))
         × (contents.new ≡ read_call_numbers frame.now contents.old page.old)
         × (page.new ≡ read_call_page frame.now contents.old page.old) }
 {
     if !has_room(contents.len(), page.len()) {
-        return refusal_code(LENGTH, 0);
+        return refusal_code(Rule::Length.at(0));
     }
-    let found = read(frame);
-    let answer = found.answer;
-    match answer {
-        Answer::Refused(r) => refusal_code(r.number, r.place),
-        Answer::Done => {
-            let counts = found.counts;
-            let bits = found.page;
-            put_numbers(found.toi, &counts, contents);
-            copy(&bits, page);
-            found.corrected as u64
+    match read(frame) {
+        Ok(found) => {
+            put_numbers(found.toi, &found.counts, contents);
+            page.copy_from_slice(&found.page);
+            u64::from(found.corrected)
         }
+        Err(refusal) => refusal_code(refusal),
     }
 }
 
@@ -66,17 +60,14 @@ pub fn l1c_read_time(frame: &[u8], time: &mut [u32]) -> u64
         × (time.new ≡ time_call_time frame.now time.old) }
 {
     if time.len() != 2 {
-        return refusal_code(LENGTH, 0);
+        return refusal_code(Rule::Length.at(0));
     }
-    let found = read_time(frame);
-    let answer = found.answer;
-    match answer {
-        Answer::Refused(r) => refusal_code(r.number, r.place),
-        Answer::Done => {
-            time[0] = found.toi as u32;
-            time[1] = found.corrected;
+    match read_time(frame) {
+        Ok(found) => {
+            time.copy_from_slice(&[u32::from(found.toi), found.corrected]);
             0
         }
+        Err(refusal) => refusal_code(refusal),
     }
 }
 
@@ -86,17 +77,14 @@ pub fn l1c_read_subframe2(frame: &[u8], counts: &mut [i64]) -> u64
         × (counts.new ≡ subframe2_call_counts frame.now counts.old) }
 {
     if counts.len() != 33 {
-        return refusal_code(LENGTH, 0);
+        return refusal_code(Rule::Length.at(0));
     }
-    let found = read_subframe2(frame);
-    let answer = found.answer;
-    match answer {
-        Answer::Refused(r) => refusal_code(r.number, r.place),
-        Answer::Done => {
-            let numbers = found.counts;
-            copy_numbers(&numbers, counts);
+    match read_subframe2(frame) {
+        Ok(found) => {
+            counts.copy_from_slice(&found);
             0
         }
+        Err(refusal) => refusal_code(refusal),
     }
 }
 
@@ -107,16 +95,13 @@ pub fn l1c_read_subframe3(frame: &[u8], page: &mut [u8]) -> u64
 {
     let unfit = page.len() != 250;
     if unfit {
-        return refusal_code(LENGTH, 0);
+        return refusal_code(Rule::Length.at(0));
     }
-    let found = read_subframe3(frame);
-    let answer = found.answer;
-    match answer {
-        Answer::Refused(r) => refusal_code(r.number, r.place),
-        Answer::Done => {
-            let page_bits = found.page;
-            copy(&page_bits, page);
+    match read_subframe3(frame) {
+        Ok(found) => {
+            page.copy_from_slice(&found);
             0
         }
+        Err(refusal) => refusal_code(refusal),
     }
 }

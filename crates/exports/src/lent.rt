@@ -11,25 +11,7 @@ pub(crate) const LISTED: usize = 34;
 pub(crate) fn toi_of(number: i64) -> u16
     ensures { result ≡ toi_of number }
 {
-    if number < 0 {
-        return LAST_TOI + 1;
-    }
-    if (LAST_TOI as i64) < number {
-        return LAST_TOI + 1;
-    }
-    number as u16
-}
-
-// Copies numbers over as many others.
-pub(crate) fn copy_numbers(from: &[i64], into: &mut [i64])
-    requires { length from.now ≡ length into.old }
-    ensures { into.new ≡ from.now }
-{
-    let mut i: usize = 0;
-    while i < from.len() {
-        into[i] = from[i];
-        i += 1;
-    }
+    u16::try_from(number).unwrap_or(u16::MAX).min(LAST_TOI + 1)
 }
 
 // A time and its counts over as many numbers.
@@ -38,5 +20,5 @@ pub(crate) fn put_numbers(toi: u16, counts: &[i64], into: &mut [i64])
     ensures { into.new ≡ pos toi ∷ counts.now }
 {
     into[0] = toi as i64;
-    copy_numbers(counts, &mut into[1..]);
+    into[1..].copy_from_slice(counts);
 }

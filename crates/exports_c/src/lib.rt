@@ -3,9 +3,10 @@
 #![tactic(auto)]
 
 ghost use Rattle.std.specs.Prelude.{◌≡◌};
-ghost use Rattle.frames.specs.Read.{frame_read};
-ghost use Rattle.sheets.specs.Sheet.{sheet_read};
-ghost use Rattle.sheets.specs.Write.{sheet_written, written_bytes};
+ghost use Rattle.words.specs.Refusal.{answer_of};
+ghost use Rattle.frames.specs.Read.{frame_read, frame_corrected};
+ghost use Rattle.sheets.specs.Sheet.{sheet_read, sheet_before};
+ghost use Rattle.sheets.specs.Write.{sheet_written, size_written, written_bytes};
 ghost use Rattle.exports.specs.Code.{code_of};
 ghost use Rattle.exports.specs.Calls.{build_call, build_call_frame, read_call, read_call_numbers, read_call_page, time_call, time_call_time, subframe2_call, subframe2_call_counts, subframe3_call, subframe3_call_page, sheet_call, sheet_call_numbers};
 
@@ -24,7 +25,7 @@ pub extern "C" fn l1c_build(contents: &[i64], page: &[u8], frame: &mut [u8]) -> 
 // 4 5 6, then 7 8 9.
 #[unsafe(no_mangle)]
 pub extern "C" fn l1c_read(frame: &[u8], contents: &mut [i64], page: &mut [u8]) -> u64
-    ensures { (result ≡ code_of (read_call frame.now contents.old page.old) (frame_read frame.now).corrected)
+    ensures { (result ≡ code_of (read_call frame.now contents.old page.old) (frame_corrected (frame_read frame.now)))
         × (contents.new ≡ read_call_numbers frame.now contents.old page.old)
         × (page.new ≡ read_call_page frame.now contents.old page.old) }
 {
@@ -62,7 +63,7 @@ pub extern "C" fn l1c_read_subframe3(frame: &[u8], page: &mut [u8]) -> u64
 // bytes or more), 10, then line by line 11 12 13 14, then 15.
 #[unsafe(no_mangle)]
 pub extern "C" fn l1c_read_sheet(bytes: &[u8], contents: &mut [i64]) -> u64
-    ensures { (result ≡ code_of (sheet_call bytes.now contents.old) (sheet_read bytes.now).before)
+    ensures { (result ≡ code_of (sheet_call bytes.now contents.old) (sheet_before (sheet_read bytes.now)))
         × (contents.new ≡ sheet_call_numbers bytes.now contents.old) }
 {
     sheet::l1c_read_sheet(bytes, contents)
@@ -71,7 +72,7 @@ pub extern "C" fn l1c_read_sheet(bytes: &[u8], contents: &mut [i64]) -> u64
 // Writes the sheet of 34 numbers, toi's first, from the first lent byte on, and says its length. Refused 1, 3, 6, 16.
 #[unsafe(no_mangle)]
 pub extern "C" fn l1c_write_sheet(contents: &[i64], out: &mut [u8]) -> u64
-    ensures { (result ≡ code_of (sheet_written contents.now out.old).answer (sheet_written contents.now out.old).size)
+    ensures { (result ≡ code_of (answer_of (sheet_written contents.now out.old)) (size_written (sheet_written contents.now out.old)))
         × (out.new ≡ written_bytes contents.now out.old) }
 {
     sheet::l1c_write_sheet(contents, out)

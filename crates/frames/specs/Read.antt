@@ -1,7 +1,7 @@
 -- Reading (document 01, "Numbers given on refusal"): in a frame 1, 2, then 3, then 4 5 6, then 7 8 9, lowest place first; of the time and
 -- of each subframe alone 1, 2 over the frame, then only its own.
 -- Assumes nothing.
-use Rattle.std.specs.Prelude.{Result, List, ℕ, ℤ, eqb, length, take}
+use Rattle.std.specs.Prelude.{Result, Ok, Err, List, [], ◌∷◌, ℕ, ℤ, pos, eqb, length, take}
 use Rattle.words.specs.Bits.{first_not_bit}
 use Rattle.words.specs.Crc.{remainder_of}
 use Rattle.words.specs.Refusal.{Answer, Done, CHECK_2, CHECK_3, answer_of, given_by, done_if, in_turn, judged}
@@ -63,9 +63,27 @@ frame_is c corrected = record { toi = c.toi; corrected = corrected; counts = c.c
 abbrev pub frame_read : List ℕ → Result Frame Refusal
 frame_read f = given_by (frame_answer f) (frame_is (contents_in f) (corrected_read (time_read (time_in f))))
 
+-- what was read of a frame: its time and counts, its page, and how many symbols were corrected; nothing where it was refused
+abbrev pub frame_numbers : Result Frame Refusal → List ℤ
+frame_numbers (Ok x) = pos x.toi ∷ x.counts
+frame_numbers (Err r) = []
+
+abbrev pub frame_page : Result Frame Refusal → List ℕ
+frame_page (Ok x) = x.page
+frame_page (Err r) = []
+
+abbrev pub frame_corrected : Result Frame Refusal → ℕ
+frame_corrected (Ok x) = x.corrected
+frame_corrected (Err r) = 0
+
 -- reading the time alone
 abbrev pub time_alone : List ℕ → Result Time Refusal
 time_alone f = in_turn (frame_judged f Done) (time_read (time_in f))
+
+-- toi and how many symbols were corrected, of a time that was read; nothing where it was refused
+abbrev pub time_numbers : Result Time Refusal → List ℕ
+time_numbers (Ok t) = t.toi ∷ t.corrected ∷ []
+time_numbers (Err r) = []
 
 -- reading subframe 2 alone
 abbrev pub subframe2_alone : List ℕ → Result (List ℤ) Refusal

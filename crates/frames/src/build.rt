@@ -24,13 +24,7 @@ use words::time::{LAST_TOI, write_time};
 fn has_sizes(counts: usize, page: usize, frame: usize) -> bool
     ensures { result ≡ (eqb counts COUNTS_2 && (eqb page PAGE_BITS && eqb frame FRAME)) }
 {
-    if counts != 33 {
-        return false;
-    }
-    if page != 250 {
-        return false;
-    }
-    frame == 1800
+    counts == 33 && page == 250 && frame == 1800
 }
 
 // The block of subframe 3 with this page, its check bits and its parity.

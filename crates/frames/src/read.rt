@@ -70,50 +70,40 @@ fn page_of(three: &[u8]) -> Result<[u8; 250], Refusal>
     page_bits(&three[..250])
 }
 
-// The frame of a time that was read and of both blocks; refused 4 5 6, then 7 8 9.
-fn frame_of(time: Time, two: &[u8], three: &[u8]) -> Result<Frame, Refusal>
-    ensures { result ≡ frame_from time two.now three.now }
+// ---- 1800 symbols
+
+// The blocks of both subframes.
+#[derive(Clone, Copy)]
+struct Blocks {
+    two: [u8; 1200],
+    three: [u8; 548],
+}
+
+// The blocks of a frame.
+fn blocks_of(frame: &[u8]) -> Blocks
+    requires { (length frame.now ≡ FRAME) × IsBits frame.now }
+    ensures { (result.two ≡ subframe_in Two frame.now) × (result.three ≡ subframe_in Three frame.now) }
 {
-    let counts = counts_of(two)?;
-    let page = page_of(three)?;
+    let mut two = [0u8; 1200];
+    let mut three = [0u8; 548];
+    deinterleave(&frame[52..], &mut two, &mut three).unwrap();
+    Blocks { two, three }
+}
+
+// The frame of a time that was read, from its blocks; refused 4 5 6, then 7 8 9.
+fn frame_of(time: Time, frame: &[u8]) -> Result<Frame, Refusal>
+    requires { (length frame.now ≡ FRAME) × IsBits frame.now }
+    ensures { result ≡ frame_from time (subframe_in Two frame.now) (subframe_in Three frame.now) }
+{
+    let blocks = blocks_of(frame);
+    let counts = counts_of(&blocks.two)?;
+    let page = page_of(&blocks.three)?;
     Ok(Frame {
         toi: time.toi,
         corrected: time.corrected,
         counts,
         page,
     })
-}
-
-// ---- 1800 symbols
-
-fn subframe2_in(frame: &[u8]) -> Result<[i64; 33], Refusal>
-    requires { (length frame.now ≡ FRAME) × IsBits frame.now }
-    ensures { result ≡ counts_from (subframe_in Two frame.now) }
-{
-    let mut two = [0u8; 1200];
-    let mut three = [0u8; 548];
-    deinterleave(&frame[52..], &mut two, &mut three).unwrap();
-    counts_of(&two)
-}
-
-fn subframe3_in(frame: &[u8]) -> Result<[u8; 250], Refusal>
-    requires { (length frame.now ≡ FRAME) × IsBits frame.now }
-    ensures { result ≡ page_from (subframe_in Three frame.now) }
-{
-    let mut two = [0u8; 1200];
-    let mut three = [0u8; 548];
-    deinterleave(&frame[52..], &mut two, &mut three).unwrap();
-    page_of(&three)
-}
-
-fn frame_in(time: Time, frame: &[u8]) -> Result<Frame, Refusal>
-    requires { (length frame.now ≡ FRAME) × IsBits frame.now }
-    ensures { result ≡ frame_from time (subframe_in Two frame.now) (subframe_in Three frame.now) }
-{
-    let mut two = [0u8; 1200];
-    let mut three = [0u8; 548];
-    deinterleave(&frame[52..], &mut two, &mut three).unwrap();
-    frame_of(time, &two, &three)
 }
 
 // ---- any bytes
@@ -131,7 +121,7 @@ pub fn read_subframe2(frame: &[u8]) -> Result<[i64; 33], Refusal>
     ensures { result ≡ subframe2_alone frame.now }
 {
     judge_lent(frame)?;
-    subframe2_in(frame)
+    counts_of(&blocks_of(frame).two)
 }
 
 // The page bits of subframe 3; refused 1, 2, then 7 8 9.
@@ -139,7 +129,7 @@ pub fn read_subframe3(frame: &[u8]) -> Result<[u8; 250], Refusal>
     ensures { result ≡ subframe3_alone frame.now }
 {
     judge_lent(frame)?;
-    subframe3_in(frame)
+    page_of(&blocks_of(frame).three)
 }
 
 // The contents of a frame; refused 1, 2, then 3, then 4 5 6, then 7 8 9.
@@ -147,5 +137,5 @@ pub fn read(frame: &[u8]) -> Result<Frame, Refusal>
     ensures { result ≡ frame_read frame.now }
 {
     let time = read_time(frame)?;
-    frame_in(time, frame)
+    frame_of(time, frame)
 }

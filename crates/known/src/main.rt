@@ -12,18 +12,18 @@ mod text;
 mod times;
 
 fn main() {
-    let mut tally = tally::nothing_run();
-    tally = times::words_of(tally);
-    tally = times::read(tally);
-    tally = checks::run(tally);
-    tally = order::of_subframe_2(tally);
-    tally = order::of_subframe_3(tally);
-    tally = counts::judged(tally);
-    tally = counts::delays(tally);
-    tally = sheet::zeros(tally);
-    tally = printed::frame(tally);
-    tally = printed::misspelt(tally);
-    tally = printed::twice(tally);
-    tally = sheet::refused(tally);
-    tally::print(tally);
+    let mut tally = tally::Tally::default();
+    times::words_of(&mut tally);
+    times::read(&mut tally);
+    checks::run(&mut tally);
+    order::of_subframe_2(&mut tally);
+    order::of_subframe_3(&mut tally);
+    counts::judged(&mut tally);
+    counts::delays(&mut tally);
+    sheet::zeros(&mut tally);
+    printed::frame(&mut tally);
+    printed::misspelt(&mut tally);
+    printed::twice(&mut tally);
+    sheet::refused(&mut tally);
+    tally.print();
 }

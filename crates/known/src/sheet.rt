@@ -1,9 +1,8 @@
 // Sheets.
-use super::tally::{Tally, with_result};
-use super::text::{Text, answer_text, refusal_text, text_of, with_bytes, with_number, with_part};
+use super::tally::Tally;
+use super::text::{Text, answer_text, push_bytes, refusal_text, text_of};
 use sheets::sheet::read_sheet;
 use sheets::write::write_sheet;
-use std::num::wrapping_sub_usize;
 use words::refusal::Answer;
 
 // How many bytes the lines of the sheet with every number 0 have, and its trailer.
@@ -19,23 +18,18 @@ fn zeros_text() -> Text {
 }
 
 fn lines_text(sheet: &[u8], size: usize) -> Text {
-    let lines = wrapping_sub_usize(size, 11);
-    let count = with_number(text_of(b""), lines as u64);
-    with_bytes(
-        with_part(count, b" bytes of lines and "),
-        sheet,
-        lines,
-        size,
-    )
+    let lines = size.saturating_sub(11);
+    let mut text = text_of(format_args!("{lines} bytes of lines and "));
+    push_bytes(&mut text, sheet.get(lines..size).unwrap_or(b""));
+    text
 }
 
-pub(crate) fn zeros(tally: Tally) -> Tally {
-    with_result(
-        tally,
+pub(crate) fn zeros(tally: &mut Tally) {
+    tally.add(
         b"the sheet with every number 0, in list order (toi, wn, itow and so on), has 232 bytes of lines and the trailer `back 00232`",
         zeros_text(),
         b"232 bytes of lines and back 00232\n",
-    )
+    );
 }
 
 fn sheet_text(bytes: &[u8]) -> Text {
@@ -44,17 +38,15 @@ fn sheet_text(bytes: &[u8]) -> Text {
     answer_text(answer)
 }
 
-pub(crate) fn refused(tally: Tally) -> Tally {
-    let next = with_result(
-        tally,
+pub(crate) fn refused(tally: &mut Tally) {
+    tally.add(
         b"an empty buffer as a sheet: 10",
         sheet_text(b""),
         b"refused 10 at 0",
     );
-    with_result(
-        next,
+    tally.add(
         b"`back 00000` and byte 10 alone: 15 at 1",
         sheet_text(b"back 00000\n"),
         b"refused 15 at 1",
-    )
+    );
 }

@@ -1,23 +1,29 @@
 // Time words.
-use super::tally::{Tally, with_result};
-use super::text::{Text, refusal_text, text_of, with_bytes, with_number, with_part};
+use super::tally::Tally;
+use super::text::{Text, push_bytes, refusal_text, text_of};
 use words::bits::{put_number, take_number};
 use words::refusal::Answer;
 use words::time::{read_time, write_time};
 
+fn symbols_text(symbols: &[u8]) -> Text {
+    let mut text = Text::new();
+    push_bytes(&mut text, symbols);
+    text
+}
+
 fn word_of(toi: u16) -> Text {
     let mut symbols = [255u8; 52];
     match write_time(&mut symbols, toi) {
-        Answer::Done => with_bytes(text_of(b""), &symbols, 0, 52),
+        Answer::Done => symbols_text(&symbols),
         Answer::Refused(r) => refusal_text(r),
     }
 }
 
-pub(crate) fn words_of(tally: Tally) -> Tally {
+pub(crate) fn words_of(tally: &mut Tally) {
     let zeros = [0u8; 52];
     let ones = [1u8; 52];
-    let next = with_result(tally, b"TOI 0 gives 52 zeros", word_of(0), &zeros);
-    with_result(next, b"TOI 256 gives 52 ones", word_of(256), &ones)
+    tally.add(b"TOI 0 gives 52 zeros", word_of(0), &zeros);
+    tally.add(b"TOI 256 gives 52 ones", word_of(256), &ones);
 }
 
 fn time_in(symbols: &[u8]) -> Text {
@@ -25,8 +31,9 @@ fn time_in(symbols: &[u8]) -> Text {
     let answer = time.answer;
     match answer {
         Answer::Done => {
-            let toi = with_number(text_of(b""), time.toi as u64);
-            with_number(with_part(toi, b" with "), time.corrected as u64)
+            let toi = time.toi;
+            let corrected = time.corrected;
+            text_of(format_args!("{toi} with {corrected}"))
         }
         Answer::Refused(r) => refusal_text(r),
     }
@@ -41,19 +48,17 @@ fn nine_turned() -> [u8; 52] {
     symbols
 }
 
-pub(crate) fn read(tally: Tally) -> Tally {
+pub(crate) fn read(tally: &mut Tally) {
     let turned = nine_turned();
     let zeros = [0u8; 52];
-    let next = with_result(
-        tally,
+    tally.add(
         b"the first nine symbols of TOI 0's word turned read as 0 with 9",
         time_in(&turned),
         b"0 with 9",
     );
-    with_result(
-        next,
+    tally.add(
         b"all 52 zeros read as 0 with 0",
         time_in(&zeros),
         b"0 with 0",
-    )
+    );
 }

@@ -11,7 +11,7 @@ ghost use Rattle.programs.specs.Symbols.{symbols_in};
 ghost use Rattle.programs.specs.Output.{OUTPUT_BYTES, symbol_line, output_of};
 ghost use Rattle.programs.specs.Building.{first_line, page_line_answer, carried_contents, sheet_contents, behind_answer, input_answer, input_contents, printed_frame};
 
-use super::output::{Output, put_symbol_line, refusal_output};
+use super::output::{Output, refusal_output};
 use super::symbols::take_symbols;
 use frames::build::build;
 use sheets::sheet::read_sheet;
@@ -27,7 +27,7 @@ fn take_page_line(input: &[u8], page: &mut [u8]) -> Answer
     ensures { (result ≡ page_line_answer input.now)
         × (page.new ≡ left_by (page_line_answer input.now) (symbols_in (first_line input.now)) page.old) }
 {
-    let end = find(input, 10);
+    let end = find(input, b'\n');
     if end == input.len() {
         return refuse(LENGTH, 0);
     }
@@ -91,9 +91,9 @@ fn frame_output(frame: &[u8]) -> Output
     requires { (length frame.now ≡ FRAME) × IsBits frame.now }
     ensures { (result ≡ output_of (symbol_line frame.now)) × (result.size ≤ OUTPUT_BYTES) }
 {
-    let mut bytes = [0u8; 1801];
-    let size = put_symbol_line(&mut bytes, 0, frame);
-    Output { bytes, size }
+    let mut output = Output::new();
+    output.put_line(frame);
+    output
 }
 
 // What the bench program prints for its input: the 1800 symbols of its frame, or `refused N at P`, and a newline.

@@ -1,12 +1,15 @@
 // What a program prints.
-ghost use Rattle.std.specs.Prelude.{◌≡◌, ◌≤◌, ◌+◌, length};
+ghost use Rattle.std.specs.Prelude.{◌≡◌, ◌≤◌, ◌+◌, length, replicate};
 ghost use Rattle.std.proofs.lemmas.List.Edits.{sets};
 ghost use Rattle.words.specs.Bits.{IsBits};
+ghost use Rattle.fields.specs.Counts.{AllInRange};
+ghost use Rattle.sheets.specs.List.{sheet_fields};
 ghost use Rattle.sheets.specs.Number.{decimal};
+ghost use Rattle.sheets.specs.Write.{sheet_text};
 ghost use Rattle.programs.specs.Output.{OUTPUT_BYTES, symbol_line, refusal_text, output_of};
 
-use super::symbols::put_characters;
-use sheets::write::{write_decimal, write_text};
+use super::symbols::set_characters;
+use sheets::write::{write_decimal, write_sheet};
 
 // The bytes printed, with zeros behind them, and how many they are.
 #[derive(Clone, Copy)]
@@ -15,53 +18,75 @@ pub struct Output {
     pub size: usize,
 }
 
-// Writes a text from `at` on, and gives the place behind it.
-pub(crate) fn put_text(out: &mut [u8], at: usize, text: &[u8]) -> usize
-    requires { at + length text.now ≤ length out.old }
-    ensures { (result ≡ at + length text.now) × (out.new ≡ sets out.old at text.now) }
-{
-    let written = write_text(text, &mut out[at..]);
-    at + written.size
-}
+impl Output {
+    // Nothing yet.
+    pub(crate) fn new() -> Output
+        ensures size { result.size ≡ 0 }
+        ensures bytes { result.bytes ≡ replicate OUTPUT_BYTES 0 }
+    {
+        Output {
+            bytes: [0; 1801],
+            size: 0,
+        }
+    }
 
-// Writes the digits of a number from `at` on, and gives the place behind them.
-pub(crate) fn put_decimal(out: &mut [u8], at: usize, number: u64) -> usize
-    requires { at + length (decimal number) ≤ length out.old }
-    ensures { (result ≡ at + length (decimal number)) × (out.new ≡ sets out.old at (decimal number)) }
-{
-    let written = write_decimal(number, &mut out[at..]);
-    at + written.size
-}
+    // Puts a text behind what is there.
+    pub(crate) fn put(&mut self, text: &[u8])
+        requires { self.old.size + length text.now ≤ OUTPUT_BYTES }
+        ensures size { self.new.size ≡ self.old.size + length text.now }
+        ensures bytes { self.new.bytes ≡ sets self.old.bytes self.old.size text.now }
+    {
+        let end = self.size + text.len();
+        self.bytes[self.size..end].copy_from_slice(text);
+        self.size = end;
+    }
 
-// Writes symbols as characters and a newline from `at` on, and gives the place behind them.
-pub(crate) fn put_symbol_line(out: &mut [u8], at: usize, symbols: &[u8]) -> usize
-    requires { IsBits symbols.now × (at + length (symbol_line symbols.now) ≤ length out.old) }
-    ensures { (result ≡ at + length (symbol_line symbols.now))
-        × (out.new ≡ sets out.old at (symbol_line symbols.now)) }
-{
-    let end = put_characters(&mut *out, at, symbols);
-    out[end] = 10;
-    end + 1
-}
+    // Puts the digits of a number behind it, at most 20.
+    pub(crate) fn put_number(&mut self, number: u64)
+        requires { self.old.size + 20 ≤ OUTPUT_BYTES }
+        ensures few { self.new.size ≤ self.old.size + 20 }
+        ensures size { self.new.size ≡ self.old.size + length (decimal number) }
+        ensures bytes { self.new.bytes ≡ sets self.old.bytes self.old.size (decimal number) }
+    {
+        let written = write_decimal(number, &mut self.bytes[self.size..]);
+        self.size += written.size;
+    }
 
-// Writes a refusal from the first byte on, and gives the place behind it.
-fn put_refusal(out: &mut [u8], number: u8, place: usize) -> usize
-    requires { length out.old ≡ OUTPUT_BYTES }
-    ensures { (result ≡ length (refusal_text number place)) × (out.new ≡ sets out.old 0 (refusal_text number place)) }
-{
-    let before_number = put_text(&mut *out, 0, b"refused ");
-    let behind_number = put_decimal(&mut *out, before_number, number as u64);
-    let before_place = put_text(&mut *out, behind_number, b" at ");
-    let end = put_decimal(&mut *out, before_place, place as u64);
-    out[end] = 10;
-    end + 1
+    // Puts symbols behind it, as characters, and a newline.
+    pub(crate) fn put_line(&mut self, symbols: &[u8])
+        requires bits { IsBits symbols.now }
+        requires room { self.old.size + (length symbols.now + 1) ≤ OUTPUT_BYTES }
+        ensures size { self.new.size ≡ self.old.size + (length symbols.now + 1) }
+        ensures bytes { self.new.bytes ≡ sets self.old.bytes self.old.size (symbol_line symbols.now) }
+    {
+        let end = self.size + symbols.len();
+        set_characters(symbols, &mut self.bytes[self.size..end]);
+        self.size = end;
+        self.put(b"\n");
+    }
+
+    // Puts the sheet of good numbers behind it, at most 800 bytes.
+    pub(crate) fn put_sheet(&mut self, numbers: &[i64])
+        requires range { AllInRange sheet_fields numbers.now }
+        requires room { self.old.size + 800 ≤ OUTPUT_BYTES }
+        ensures few { self.new.size ≤ self.old.size + 800 }
+        ensures size { self.new.size ≡ self.old.size + length (sheet_text numbers.now) }
+        ensures bytes { self.new.bytes ≡ sets self.old.bytes self.old.size (sheet_text numbers.now) }
+    {
+        let written = write_sheet(numbers, &mut self.bytes[self.size..]);
+        self.size += written.size;
+    }
 }
 
 // `refused N at P` and a newline.
 pub(crate) fn refusal_output(number: u8, place: usize) -> Output
     ensures { (result ≡ output_of (refusal_text number place)) × (result.size ≤ OUTPUT_BYTES) }
 {
-    let mut bytes = [0u8; 1801];
-    let size = put_refusal(&mut bytes, number, place);
-    Output { bytes, size }
+    let mut output = Output::new();
+    output.put(b"refused ");
+    output.put_number(number as u64);
+    output.put(b" at ");
+    output.put_number(place as u64);
+    output.put(b"\n");
+    output
 }

@@ -13,10 +13,9 @@ ghost use Rattle.programs.specs.Symbols.{symbols_in};
 ghost use Rattle.programs.specs.Output.{OUTPUT_BYTES, output_of};
 ghost use Rattle.programs.specs.Reading.{frame_line, frame_line_answer, contents_text, frame_text, printed_sheet};
 
-use super::output::{Output, put_decimal, put_symbol_line, put_text, refusal_output};
+use super::output::{Output, refusal_output};
 use super::symbols::take_symbols;
 use frames::read::{Frame, read};
-use sheets::write::write_sheet;
 use words::refusal::{Answer, LENGTH, refuse};
 
 // The symbols of the input, all but its newline. Refused 1 at 0 for another length or without its newline, 2 at the first character that
@@ -26,15 +25,14 @@ fn take_frame_line(input: &[u8], frame: &mut [u8]) -> Answer
     ensures { (result ≡ frame_line_answer input.now)
         × (frame.new ≡ left_by (frame_line_answer input.now) (symbols_in (frame_line input.now)) frame.old) }
 {
-    if input.len() == 0 {
+    let Some((last, line)) = input.split_last() else {
         return refuse(LENGTH, 0);
-    }
-    let end = input.len() - 1;
-    let unended = input[end] != 10;
+    };
+    let unended = *last != b'\n';
     if unended {
         return refuse(LENGTH, 0);
     }
-    take_symbols(&input[..end], frame)
+    take_symbols(line, frame)
 }
 
 // The numbers of a sheet: the time, then the counts.
@@ -43,38 +41,25 @@ fn numbers_of(toi: u16, counts: [i64; 33]) -> [i64; 34]
 {
     let mut numbers = [0i64; 34];
     numbers[0] = toi as i64;
-    let mut k: usize = 0;
-    while k < 33 {
-        numbers[k + 1] = counts[k];
-        k += 1;
-    }
+    numbers[1..].copy_from_slice(&counts);
     numbers
 }
 
-// Writes the sheet of good numbers from `at` on, and gives the place behind it.
-fn put_sheet(out: &mut [u8], at: usize, numbers: &[i64]) -> usize
-    requires { AllInRange sheet_fields numbers.now × (at + length (sheet_text numbers.now) ≤ length out.old) }
-    ensures { (result ≡ at + length (sheet_text numbers.now))
-        × (out.new ≡ sets out.old at (sheet_text numbers.now)) }
+// How many symbols were corrected, the page line and the sheet.
+fn contents_output(frame: Frame) -> Output
+    requires { (frame.corrected ≤ 9) × GoodContents (contents_of frame.toi frame.counts frame.page) }
+    ensures { (result ≡ output_of (contents_text (contents_of frame.toi frame.counts frame.page) frame.corrected))
+        × (result.size ≤ OUTPUT_BYTES) }
 {
-    let written = write_sheet(numbers, &mut out[at..]);
-    at + written.size
-}
-
-// Writes how many symbols were corrected, the page line and the sheet, and gives the place behind them.
-fn put_contents(out: &mut [u8], frame: Frame) -> usize
-    requires { (length out.old ≡ OUTPUT_BYTES) × (frame.corrected ≤ 9) × GoodContents (contents_of frame.toi frame.counts frame.page) }
-    ensures { (result ≡ length (contents_text (contents_of frame.toi frame.counts frame.page) frame.corrected))
-        × (out.new ≡ sets out.old 0 (contents_text (contents_of frame.toi frame.counts frame.page) frame.corrected)) }
-{
-    let before_count = put_text(&mut *out, 0, b"corrected ");
-    let end = put_decimal(&mut *out, before_count, frame.corrected as u64);
-    out[end] = 10;
+    let mut output = Output::new();
+    output.put(b"corrected ");
+    output.put_number(frame.corrected as u64);
+    output.put(b"\n");
     let page = frame.page;
-    let behind_page = put_symbol_line(&mut *out, end + 1, &page);
-    let counts = frame.counts;
-    let numbers = numbers_of(frame.toi, counts);
-    put_sheet(out, behind_page, &numbers)
+    output.put_line(&page);
+    let numbers = numbers_of(frame.toi, frame.counts);
+    output.put_sheet(&numbers);
+    output
 }
 
 // What 1800 symbols stand for, or the refusal of reading them.
@@ -85,11 +70,7 @@ fn frame_contents(symbols: &[u8]) -> Output
     let answer = frame.answer;
     match answer {
         Answer::Refused(r) => refusal_output(r.number, r.place),
-        Answer::Done => {
-            let mut bytes = [0u8; 1801];
-            let size = put_contents(&mut bytes, frame);
-            Output { bytes, size }
-        }
+        Answer::Done => contents_output(frame),
     }
 }
 

@@ -11,24 +11,17 @@ use words::refusal::{Answer, LENGTH, NOT_A_BIT, refuse};
 fn is_symbol(character: u8) -> bool
     ensures { result ≡ is_symbol character }
 {
-    if character < 48 {
-        return false;
-    }
-    character <= 49
+    (b'0'..=b'1').contains(&character)
 }
 
 // The index of the first character that is neither `0` nor `1`, or the length.
 fn first_other(characters: &[u8]) -> usize
     ensures { result ≡ first_other characters.now }
 {
-    let mut i: usize = 0;
-    while i < characters.len() {
-        if !is_symbol(characters[i]) {
-            return i;
-        }
-        i += 1;
-    }
-    i
+    characters
+        .iter()
+        .position(|character| !is_symbol(*character))
+        .unwrap_or(characters.len())
 }
 
 // Writes the symbols that characters `0` and `1` stand for.
@@ -36,10 +29,8 @@ fn set_symbols(characters: &[u8], symbols: &mut [u8])
     requires { (length characters.now ≡ length symbols.old) × (first_other characters.now ≡ length characters.now) }
     ensures { symbols.new ≡ symbols_in characters.now }
 {
-    let mut i: usize = 0;
-    while i < characters.len() {
-        symbols[i] = characters[i] - 48;
-        i += 1;
+    for (i, character) in characters.iter().enumerate() {
+        symbols[i] = *character - b'0';
     }
 }
 
@@ -61,16 +52,12 @@ pub(crate) fn take_symbols(characters: &[u8], symbols: &mut [u8]) -> Answer
     Answer::Done
 }
 
-// Writes symbols as characters from `at` on, and gives the place behind them.
-pub(crate) fn put_characters(out: &mut [u8], at: usize, symbols: &[u8]) -> usize
-    requires { IsBits symbols.now × (at + length symbols.now ≤ length out.old) }
-    ensures { (result ≡ at + length symbols.now)
-        × (out.new ≡ sets out.old at (characters_of symbols.now)) }
+// Writes symbols as characters over as many bytes.
+pub(crate) fn set_characters(symbols: &[u8], characters: &mut [u8])
+    requires { IsBits symbols.now × (length symbols.now ≡ length characters.old) }
+    ensures { characters.new ≡ characters_of symbols.now }
 {
-    let mut i: usize = 0;
-    while i < symbols.len() {
-        out[at + i] = 48 + symbols[i];
-        i += 1;
+    for (i, symbol) in symbols.iter().enumerate() {
+        characters[i] = b'0' + *symbol;
     }
-    at + i
 }

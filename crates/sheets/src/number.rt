@@ -1,125 +1,89 @@
 // Numbers of a sheet, read and written.
-ghost use Rattle.std.specs.Prelude.{◌≡◌, cond, ◌+◌, ◌-◌, ◌*◌, ◌≤◌, ◌<◌, min, length};
+ghost use Rattle.std.specs.Prelude.{◌≡◌, cond, ◌+◌, ◌-◌, ◌*◌, ◌≤◌, ◌<◌, min, length, Some, None};
 ghost use Rattle.std.proofs.lemmas.List.Edits.{sets};
 ghost use Rattle.fields.specs.Counts.{in_range};
 ghost use Rattle.sheets.specs.Number.{decimal, numeral};
-ghost use Rattle.sheets.specs.Laws.Steps.{BEYOND, digits_read, plain_read, negative_read, positive_read, number_read};
-ghost use Rattle.sheets.specs.declared.number.Number.TheVariants.{Is, IsNot};
+ghost use Rattle.sheets.specs.Laws.Steps.{digits_read, plain_read, negative_read, positive_read, number_read};
 
 use fields::counts::in_range;
 use fields::table::Field;
-use words::bits::magnitude;
 
-// Digits, and what they stand for; from BEYOND on, which is out of every field's range, only that.
-#[derive(Clone, Copy)]
-pub(crate) enum Digits {
-    Are(u64),
-    AreNot,
-}
+// From here on a number is out of every field's range, and is told apart no further.
+const BEYOND: u64 = 1099511627776;
 
 // The number with one digit more, at most BEYOND.
-fn with_digit(number: u64, digit: u64) -> u64
+fn with_digit(number: u64, digit: u8) -> u64
     requires { (number ≤ BEYOND) × (48 ≤ digit) × (digit ≤ 57) }
     ensures { result ≡ min (number * 10 + (digit - 48)) BEYOND }
 {
-    let longer = number * 10 + (digit - 48);
-    if 1099511627776 < longer {
-        return 1099511627776;
-    }
-    longer
+    let longer = number * 10 + u64::from(digit - b'0');
+    longer.min(BEYOND)
 }
 
 // What digits stand for, at most BEYOND.
-pub(crate) fn read_digits(text: &[u8]) -> Digits
+pub(crate) fn read_digits(text: &[u8]) -> Option<u64>
     ensures { result ≡ digits_read text.now }
 {
-    let mut i: usize = 0;
     let mut number: u64 = 0;
-    while i < text.len() {
-        let digit = text[i] as u64;
-        if digit < 48 {
-            return Digits::AreNot;
+    for digit in text {
+        match *digit {
+            b'0'..=b'9' => number = with_digit(number, *digit),
+            _ => return None,
         }
-        if 57 < digit {
-            return Digits::AreNot;
-        }
-        number = with_digit(number, digit);
-        i += 1;
     }
-    Digits::Are(number)
+    Some(number)
 }
 
 // The same of a number without a sign: at least one digit, and no leading zero unless it is the only one.
-fn read_plain(text: &[u8]) -> Digits
+fn read_plain(text: &[u8]) -> Option<u64>
     ensures { result ≡ plain_read text.now }
 {
-    if text.len() == 0 {
-        return Digits::AreNot;
+    match text {
+        [] | [b'0', _, ..] => None,
+        _ => read_digits(text),
     }
-    if text[0] == 48 {
-        if text.len() != 1 {
-            return Digits::AreNot;
-        }
-    }
-    read_digits(text)
-}
-
-// A number in its field's range, or that it is none.
-#[derive(Clone, Copy)]
-pub(crate) enum Number {
-    Is(i64),
-    IsNot,
 }
 
 // The count, where it is in the field's range.
-fn within(field: Field, count: i64) -> Number
-    ensures { result ≡ cond (in_range field count) (Is count) IsNot }
+fn within(field: Field, count: i64) -> Option<i64>
+    ensures { result ≡ cond (in_range field count) (Some count) None }
 {
     if in_range(field, count) {
-        return Number::Is(count);
+        return Some(count);
     }
-    Number::IsNot
+    None
 }
 
 // The number behind a `-`.
-fn read_negative(field: Field, text: &[u8]) -> Number
+fn read_negative(field: Field, text: &[u8]) -> Option<i64>
     requires { field.most + 1 < BEYOND }
     ensures { result ≡ negative_read field text.now }
 {
-    match read_plain(text) {
-        Digits::AreNot => Number::IsNot,
-        Digits::Are(number) => {
-            if number == 0 {
-                return Number::IsNot;
-            }
-            within(field, 0 - (number as i64))
-        }
+    let number = read_plain(text)?;
+    if number == 0 {
+        return None;
     }
+    within(field, -(number as i64))
 }
 
 // The number without a sign.
-fn read_positive(field: Field, text: &[u8]) -> Number
+fn read_positive(field: Field, text: &[u8]) -> Option<i64>
     requires { field.most + 1 < BEYOND }
     ensures { result ≡ positive_read field text.now }
 {
-    match read_plain(text) {
-        Digits::AreNot => Number::IsNot,
-        Digits::Are(number) => within(field, number as i64),
-    }
+    let number = read_plain(text)?;
+    within(field, number as i64)
 }
 
 // The number that a text stands for, in the field's range.
-pub(crate) fn read_number(field: Field, text: &[u8]) -> Number
+pub(crate) fn read_number(field: Field, text: &[u8]) -> Option<i64>
     requires { field.most + 1 < BEYOND }
     ensures { result ≡ number_read field text.now }
 {
-    if text.len() == 0 {
-        return Number::IsNot;
+    match text {
+        [b'-', digits @ ..] => read_negative(field, digits),
+        _ => read_positive(field, text),
     }
-    if text[0] == 45 {
-        return read_negative(field, &text[1..]);
-    }
-    read_positive(field, text)
 }
 
 // ---- writing
@@ -130,11 +94,11 @@ pub(crate) fn put_decimal(out: &mut [u8], at: usize, number: u64) -> usize
     ensures { (result ≡ at + length (decimal number)) × (out.new ≡ sets out.old at (decimal number)) }
 {
     if number < 10 {
-        out[at] = 48 + number as u8;
+        out[at] = b'0' + number as u8;
         return at + 1;
     }
     let end = put_decimal(&mut *out, at, number / 10);
-    out[end] = 48 + (number % 10) as u8;
+    out[end] = b'0' + (number % 10) as u8;
     end + 1
 }
 
@@ -144,8 +108,8 @@ pub(crate) fn put_number(out: &mut [u8], at: usize, number: i64) -> usize
     ensures { (result ≡ at + length (numeral number)) × (out.new ≡ sets out.old at (numeral number)) }
 {
     if number < 0 {
-        out[at] = 45;
-        return put_decimal(out, at + 1, magnitude(number) + 1);
+        out[at] = b'-';
+        return put_decimal(out, at + 1, number.unsigned_abs());
     }
-    put_decimal(out, at, magnitude(number))
+    put_decimal(out, at, number.unsigned_abs())
 }

@@ -1,10 +1,11 @@
 // Reading the sheet at the end of lent bytes.
-ghost use Rattle.std.specs.Prelude.{◌≡◌};
-ghost use Rattle.sheets.specs.Lines.{first_missing, numbers_in, lines_in, body_answer};
+ghost use Rattle.std.specs.Prelude.{◌≡◌, map, pos, is_none, unwrap_or};
+ghost use Rattle.std.specs.List.{position};
+ghost use Rattle.sheets.specs.Lines.{numbers_in, lines_in, body_answer};
 ghost use Rattle.sheets.specs.Sheet.{no_sheet, sheet_by, sheet_read, before_sheet};
 ghost use Rattle.sheets.specs.Laws.Steps.{finished_sheet};
 
-use super::lines::{Line, judge_line};
+use super::lines::{Found, judge_line};
 use super::list::LISTED;
 use super::text::find;
 use super::trailer::sheet_start;
@@ -29,28 +30,32 @@ fn no_sheet(number: u8, place: usize) -> Sheet
     }
 }
 
-// How many names stand before the first that is not given: all, where none is missing.
-fn first_missing(given: [bool; 34]) -> usize
-    ensures { result ≡ first_missing given }
+// The position of the first name without a number.
+fn first_missing(found: &Found) -> Option<usize>
+    ensures { result ≡ position is_none found.now }
 {
-    let mut k: usize = 0;
-    while k < LISTED {
-        if !given[k] {
-            return k;
-        }
-        k += 1;
+    found.iter().position(|number| number.is_none())
+}
+
+// The numbers, with 0 for a name without one.
+fn numbers_found(found: &Found) -> [i64; LISTED]
+    ensures { result ≡ map (λ number. unwrap_or number (pos 0)) found.now }
+{
+    let mut numbers = [0i64; LISTED];
+    for (k, number) in found.iter().enumerate() {
+        numbers[k] = number.unwrap_or(0);
     }
-    k
+    numbers
 }
 
 // After the last line: the numbers, or the first name that is missing.
-fn finished_sheet(numbers: [i64; 34], given: [bool; 34], before: usize) -> Sheet
-    ensures { result ≡ finished_sheet numbers given before }
+fn finished_sheet(found: &Found, before: usize) -> Sheet
+    ensures { result ≡ finished_sheet found.now before }
 {
-    let missing = first_missing(given);
-    if missing < LISTED {
+    if let Some(missing) = first_missing(found) {
         return no_sheet(NAME_MISSING, missing + 1);
     }
+    let numbers = numbers_found(found);
     Sheet {
         answer: Answer::Done,
         numbers,
@@ -63,26 +68,24 @@ fn read_lines(lines: &[u8], before: usize) -> Sheet
     ensures { result ≡ sheet_by (body_answer lines.now) (numbers_in (lines_in lines.now)) before }
 {
     let mut at: usize = 0;
-    let mut numbers = [0i64; 34];
-    let mut given = [false; 34];
+    let mut found: Found = [None; LISTED];
     while at < lines.len() {
         let rest = &lines[at..];
-        let end = find(rest, 10);
+        let end = find(rest, b'\n');
         if end == rest.len() {
             return no_sheet(LINE, at);
         }
-        match judge_line(&rest[..end], given) {
-            Line::Gives(k, number) => {
-                numbers[k] = number;
-                given[k] = true;
+        match judge_line(&rest[..end], &found) {
+            Ok((k, number)) => {
+                found[k] = Some(number);
                 at = at + end + 1;
             }
-            Line::Refused(number) => {
+            Err(number) => {
                 return no_sheet(number, at);
             }
         }
     }
-    finished_sheet(numbers, given, before)
+    finished_sheet(&found, before)
 }
 
 // The sheet at the end of the bytes; refused 10 at 0, then line by line 11, 12, 13, 14 at the line's first byte, counted from the sheet's

@@ -1,37 +1,13 @@
-// Texts: where a byte stands, the same bytes, and bytes that are written.
+// Texts: where a byte stands, and bytes that are written.
 ghost use Rattle.std.specs.Prelude.{◌≡◌, ◌≤◌, ◌+◌, length};
 ghost use Rattle.std.proofs.lemmas.List.Edits.{sets};
-ghost use Rattle.sheets.specs.Text.{index_of, same_bytes};
+ghost use Rattle.sheets.specs.Text.{index_of};
 
 // How many bytes stand before the first byte `b`: all, where there is none.
 pub fn find(bytes: &[u8], b: u8) -> usize
     ensures { result ≡ index_of b bytes.now }
 {
-    let mut i: usize = 0;
-    while i < bytes.len() {
-        if bytes[i] == b {
-            return i;
-        }
-        i += 1;
-    }
-    i
-}
-
-// Both have the same bytes.
-pub(crate) fn same(a: &[u8], b: &[u8]) -> bool
-    ensures { result ≡ same_bytes a.now b.now }
-{
-    if a.len() != b.len() {
-        return false;
-    }
-    let mut i: usize = 0;
-    while i < a.len() {
-        if a[i] != b[i] {
-            return false;
-        }
-        i += 1;
-    }
-    true
+    bytes.iter().position(|x| *x == b).unwrap_or(bytes.len())
 }
 
 // Writes bytes from `at` on, and gives the place behind them.
@@ -39,10 +15,7 @@ pub(crate) fn put_bytes(out: &mut [u8], at: usize, bytes: &[u8]) -> usize
     requires { at + length bytes.now ≤ length out.old }
     ensures { (result ≡ at + length bytes.now) × (out.new ≡ sets out.old at bytes.now) }
 {
-    let mut i: usize = 0;
-    while i < bytes.len() {
-        out[at + i] = bytes[i];
-        i += 1;
-    }
-    at + i
+    let end = at + bytes.len();
+    out[at..end].copy_from_slice(bytes);
+    end
 }

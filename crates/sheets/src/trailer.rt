@@ -4,19 +4,16 @@ ghost use Rattle.std.proofs.lemmas.List.Edits.{sets};
 ghost use Rattle.sheets.specs.Trailer.{TRAILER_BYTES, start_of, trailer_text};
 ghost use Rattle.sheets.specs.Laws.Steps.{count_read};
 
-use super::number::{Digits, read_digits};
-use super::text::{put_bytes, same};
+use super::number::read_digits;
+use super::text::put_bytes;
 
 // What eleven bytes count, where they are a trailer.
-fn read_count(trailer: &[u8]) -> Digits
+fn read_count(trailer: &[u8]) -> Option<u64>
     requires { length trailer.now ≡ TRAILER_BYTES }
     ensures { result ≡ count_read trailer.now }
 {
-    if !same(&trailer[..5], b"back ") {
-        return Digits::AreNot;
-    }
-    if trailer[10] != 10 {
-        return Digits::AreNot;
+    if !trailer.starts_with(b"back ") || trailer[10] != b'\n' {
+        return None;
     }
     read_digits(&trailer[5..10])
 }
@@ -31,20 +28,18 @@ pub fn sheet_start(bytes: &[u8]) -> usize
         return none;
     }
     let place = none - 11;
-    match read_count(&bytes[place..]) {
-        Digits::AreNot => none,
-        Digits::Are(count) => {
-            let too_many = 4096 < count;
-            if too_many {
-                return none;
-            }
-            let back = count as usize;
-            if place < back {
-                return none;
-            }
-            place - back
-        }
+    let Some(count) = read_count(&bytes[place..]) else {
+        return none;
+    };
+    let too_many = 4096 < count;
+    if too_many {
+        return none;
     }
+    let back = count as usize;
+    if place < back {
+        return none;
+    }
+    place - back
 }
 
 // Writes the trailer after `count` bytes from `at` on, and gives the place behind it.
@@ -53,17 +48,17 @@ pub(crate) fn put_trailer(out: &mut [u8], at: usize, count: usize) -> usize
     ensures { (result ≡ at + TRAILER_BYTES) × (out.new ≡ sets out.old at (trailer_text count)) }
 {
     let trailer = [
-        98,
-        97,
-        99,
-        107,
-        32,
-        48 + (count / 10000 % 10) as u8,
-        48 + (count / 1000 % 10) as u8,
-        48 + (count / 100 % 10) as u8,
-        48 + (count / 10 % 10) as u8,
-        48 + (count % 10) as u8,
-        10,
+        b'b',
+        b'a',
+        b'c',
+        b'k',
+        b' ',
+        b'0' + (count / 10000 % 10) as u8,
+        b'0' + (count / 1000 % 10) as u8,
+        b'0' + (count / 100 % 10) as u8,
+        b'0' + (count / 10 % 10) as u8,
+        b'0' + (count % 10) as u8,
+        b'\n',
     ];
     put_bytes(out, at, &trailer)
 }

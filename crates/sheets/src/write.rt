@@ -3,15 +3,15 @@ ghost use Rattle.std.specs.Prelude.{◌≡◌, [], ◌∷◌, ◌++◌, ◌+◌,
 ghost use Rattle.std.proofs.lemmas.List.Edits.{sets};
 ghost use Rattle.words.specs.Refusal.{refused_at};
 ghost use Rattle.words.specs.declared.refusal.Answer.TheVariants.{Done};
-ghost use Rattle.sheets.specs.Text.{LINE_END, EQUALS, parts_ended, ended_by};
-ghost use Rattle.sheets.specs.List.{NUMBERS};
+ghost use Rattle.sheets.specs.Text.{LINE_END, ended_by};
+ghost use Rattle.sheets.specs.List.{NUMBERS, sheet_names};
 ghost use Rattle.sheets.specs.Number.{decimal};
 ghost use Rattle.sheets.specs.Sheet.{line_text, line_texts};
 ghost use Rattle.sheets.specs.Write.{sheet_text, numbers_answer, written_by, sheet_written, written_bytes, text_written, text_bytes};
 
 use super::list::{LISTED, NAMES, listed_field};
 use super::number::{put_decimal, put_number};
-use super::text::{find, put_bytes};
+use super::text::put_bytes;
 use super::trailer::put_trailer;
 use fields::counts::in_range;
 use fields::subframe2::judge_counts;
@@ -67,27 +67,22 @@ fn put_line(out: &mut [u8], at: usize, name: &[u8], number: i64) -> usize
         × (out.new ≡ sets out.old at (line_text name.now number ++ LINE_END ∷ [])) }
 {
     let equals = put_bytes(&mut *out, at, name);
-    out[equals] = 61;
+    out[equals] = b'=';
     let end = put_number(&mut *out, equals + 1, number);
-    out[end] = 10;
+    out[end] = b'\n';
     end + 1
 }
 
-// Writes a line for each number, with the name that stands in `names`, each ended by `=`; gives the place behind them.
-fn put_lines(out: &mut [u8], names: &[u8], numbers: &[i64]) -> usize
-    requires { (length numbers.now ≡ length (parts_ended EQUALS names.now))
-        × (length (ended_by LINE_END (line_texts (parts_ended EQUALS names.now) numbers.now)) ≤ length out.old) }
-    ensures { (result ≡ length (ended_by LINE_END (line_texts (parts_ended EQUALS names.now) numbers.now)))
-        × (out.new ≡ sets out.old 0 (ended_by LINE_END (line_texts (parts_ended EQUALS names.now) numbers.now))) }
+// Writes a line for each number, with its name of the list; gives the place behind them.
+fn put_lines(out: &mut [u8], numbers: &[i64]) -> usize
+    requires { (length numbers.now ≡ NUMBERS)
+        × (length (ended_by LINE_END (line_texts sheet_names numbers.now)) ≤ length out.old) }
+    ensures { (result ≡ length (ended_by LINE_END (line_texts sheet_names numbers.now)))
+        × (out.new ≡ sets out.old 0 (ended_by LINE_END (line_texts sheet_names numbers.now))) }
 {
     let mut at: usize = 0;
-    let mut from: usize = 0;
-    let mut k: usize = 0;
-    while k < numbers.len() {
-        let stop = from + find(&names[from..], 61);
-        at = put_line(&mut *out, at, &names[from..stop], numbers[k]);
-        from = stop + 1;
-        k += 1;
+    for (name, number) in NAMES.iter().zip(numbers) {
+        at = put_line(&mut *out, at, name, *number);
     }
     at
 }
@@ -98,8 +93,7 @@ fn put_sheet(out: &mut [u8], numbers: &[i64]) -> usize
     ensures { (result ≡ length (sheet_text numbers.now))
         × (out.new ≡ sets out.old 0 (sheet_text numbers.now)) }
 {
-    let names = NAMES;
-    let count = put_lines(&mut *out, &names, numbers);
+    let count = put_lines(&mut *out, numbers);
     put_trailer(out, count, count)
 }
 

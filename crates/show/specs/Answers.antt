@@ -1,13 +1,12 @@
 -- What an answer is: done, or the refusal with a number at a place.
 -- Assumes nothing.
-use Rattle.std.specs.Prelude.{Bool, true, false, ◌&&◌, ℕ, eqb}
-use Rattle.words.specs.declared.refusal.Answer.{Answer}
-use Rattle.words.specs.declared.refusal.Answer.TheVariants.{Done, Refused}
+use Rattle.std.specs.Prelude.{Bool, true, false, ◌&&◌, ℕ, eqb, Result, Ok, Err}
+use Rattle.words.specs.declared.refusal.Refusal.{Refusal}
 
-abbrev pub is_done : Answer → Bool
-is_done Done = true
-is_done (Refused r) = false
+abbrev pub is_done : {A : Type 0} → Result A Refusal → Bool
+is_done (Ok x) = true
+is_done (Err r) = false
 
-abbrev pub is_refused : Answer → ℕ → ℕ → Bool
-is_refused Done number place = false
-is_refused (Refused r) number place = eqb r.number number && eqb r.place place
+abbrev pub is_refused : {A : Type 0} → Result A Refusal → ℕ → ℕ → Bool
+is_refused (Ok x) number place = false
+is_refused (Err r) number place = eqb r.number number && eqb r.place place

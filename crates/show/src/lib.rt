@@ -5,7 +5,7 @@ ghost use Rattle.std.specs.Prelude.{◌≡◌};
 ghost use Rattle.show.specs.Answers.{is_done, is_refused};
 ghost use Rattle.show.specs.Counts.{SameCounts};
 
-use words::refusal::Answer;
+use words::refusal::Refusal;
 
 pub fn expected(text: &[u8], so: bool) -> bool
     ensures { result ≡ so }
@@ -20,49 +20,37 @@ pub fn expected(text: &[u8], so: bool) -> bool
     so
 }
 
-pub fn is_done(answer: Answer) -> bool
-    ensures { result ≡ is_done answer }
+pub fn is_done<T>(answer: &Result<T, Refusal>) -> bool
+    ensures { result ≡ is_done answer.now }
+{
+    answer.is_ok()
+}
+
+pub fn is_refused<T>(answer: &Result<T, Refusal>, number: u8, place: usize) -> bool
+    ensures { result ≡ is_refused answer.now number place }
 {
     match answer {
-        Answer::Done => true,
-        Answer::Refused(_) => false,
+        Ok(_) => false,
+        Err(refusal) => *refusal == Refusal { number, place },
     }
 }
 
-pub fn is_refused(answer: Answer, number: u8, place: usize) -> bool
-    ensures { result ≡ is_refused answer number place }
-{
-    match answer {
-        Answer::Done => false,
-        Answer::Refused(r) => r.number == number && r.place == place,
-    }
-}
-
-pub fn done(text: &[u8], answer: Answer) -> bool
-    ensures { result ≡ is_done answer }
+pub fn done<T>(text: &[u8], answer: &Result<T, Refusal>) -> bool
+    ensures { result ≡ is_done answer.now }
 {
     expected(text, is_done(answer))
 }
 
-pub fn refused(text: &[u8], answer: Answer, number: u8, place: usize) -> bool
-    ensures { result ≡ is_refused answer number place }
+pub fn refused<T>(text: &[u8], answer: &Result<T, Refusal>, number: u8, place: usize) -> bool
+    ensures { result ≡ is_refused answer.now number place }
 {
     expected(text, is_refused(answer, number, place))
 }
 
 // Whether two lists of counts are the same.
+#[tactic(auto, using(crate::proofs::Counts::counts_compared))]
 pub fn same_counts(a: &[i64], b: &[i64]) -> bool
     ensures { SameCounts result a.now b.now }
 {
-    if a.len() != b.len() {
-        return false;
-    }
-    let mut k: usize = 0;
-    while k < a.len() {
-        if a[k] != b[k] {
-            return false;
-        }
-        k += 1;
-    }
-    true
+    a == b
 }

@@ -1,6 +1,6 @@
 -- What a refusal is: the table "Numbers given on refusal" of document 01.
 -- Assumes nothing.
-use Rattle.std.specs.Prelude.{Bool, true, false, cond, List, ℕ, Result, Ok, Err, ⊤}
+use Rattle.std.specs.Prelude.{Bool, true, false, cond, List, [], ℕ, Result, Ok, Err, ⊤}
 use Rattle.words.specs.declared.refusal.Refusal.{Refusal}
 use Rattle.words.specs.declared.refusal.Rule.{Rule}
 use Rattle.words.specs.declared.refusal.Rule.TheVariants.{Length, NotABit, Time, Equation2, Check2, Field2, Equation3, Check3, Field3, Trailer, Line, Name, NameAgain, Number, NameMissing, Room}
@@ -116,6 +116,11 @@ given_by (Err r) x = Err r
 -- done where the test holds, and else the refusal with this number, at this place
 abbrev pub done_if : Bool → ℕ → ℕ → Answer
 done_if test number place = cond test Done (refused_at number place)
+
+-- the list that is given, empty where it is refused
+abbrev pub list_given : {A : Type 0} → Result (List A) Refusal → List A
+list_given (Ok l) = l
+list_given (Err r) = []
 
 -- judged in turn: the first refusal of the two, and where neither refuses what the second gives
 abbrev pub in_turn : {A : Type 0} → Answer → Result A Refusal → Result A Refusal

@@ -1,14 +1,12 @@
 -- What the calls on frames answer is reported by their numbers.
 -- Assumes nothing.
-use Rattle.std.specs.Prelude.{◌≡◌, Bool, true, false, cond, ◌&&◌, List, [], ◌∷◌, ℕ, zero, suc, ◌+◌, ◌%◌, ◌≤◌, ◌<◌, eqb, leb, ℤ, length, take}
+use Rattle.std.specs.Prelude.{◌≡◌, Bool, true, false, cond, ◌&&◌, List, [], ◌∷◌, ℕ, zero, suc, ◌+◌, ◌%◌, ◌≤◌, ◌<◌, eqb, leb, ℤ, length, take, Err, Ok}
 use Rattle.std.proofs.Common.{sym, subst, arith, eqb-true}
 use Rattle.std.proofs.Math.Bool.{and-eq-true_iff}
 use Rattle.words.specs.Bits.{first_not_bit}
 use Rattle.words.specs.Crc.{remainder_of}
-use Rattle.words.specs.Refusal.{LENGTH, NOT_A_BIT, TIME, FIELD_2, FIELD_3, done_if, in_turn}
+use Rattle.words.specs.Refusal.{LENGTH, NOT_A_BIT, TIME, FIELD_2, FIELD_3, done_if, in_turn, Answer, Done, answer_of}
 use Rattle.words.specs.Time.{LAST_TOI, time_is, no_time, time_read}
-use Rattle.words.specs.declared.refusal.Answer.{Answer}
-use Rattle.words.specs.declared.refusal.Answer.TheVariants.{Done, Refused}
 use Rattle.words.specs.declared.time.Time.{Time}
 use Rattle.words.specs.Laws.Digits.{not_bit_le}
 use Rattle.words.specs.Laws.Judged.{Judged, wrong_length, wrong_byte, time_missing, a_time, judged}
@@ -112,13 +110,13 @@ subframe_codable s block =
     some Two e = omega arith
     some Three e = omega arith
 
-time_codable : (s : List ℕ) → Codable (time_read s).answer
+time_codable : (s : List ℕ) → Codable (answer_of (time_read s))
 time_codable s = go (judged s)
   where
-    is : (t : Time) → time_read s ≡ t → Codable t.answer → Codable (time_read s).answer
-    is t e h = subst (λ (x : Time). Codable x.answer) (sym e) h
+    is : (t : Time) → time_read s ≡ t → Codable (answer_of t) → Codable (answer_of (time_read s))
+    is t e h = subst (λ (x : Time). Codable (answer_of x)) (sym e) h
 
-    go : Judged s → Codable (time_read s).answer
+    go : Judged s → Codable (answer_of (time_read s))
     go (wrong_length l r) = is (no_time LENGTH 0) r (test_codable false LENGTH 0 (λ e. omega arith) (λ e. omega arith))
     go (wrong_byte l b r) =
         is (no_time NOT_A_BIT (first_not_bit s)) r (test_codable false NOT_A_BIT (first_not_bit s) (λ e. omega arith) (λ e. omega arith))
@@ -145,7 +143,7 @@ build_codable c out =
         let behind = (and-eq-true_iff (eqb (length c.counts) COUNTS_2) (eqb (length c.page) PAGE_BITS && eqb (length out) FRAME)).0 e in
         eqb-true (length c.page) PAGE_BITS ((and-eq-true_iff (eqb (length c.page) PAGE_BITS) (eqb (length out) FRAME)).0 behind.1).0
 
-pub read_codable : (f : List ℕ) → Codable (frame_read f).answer
+pub read_codable : (f : List ℕ) → Codable (answer_of (frame_read f))
 read_codable f = go (frame_answer f) whole
   where
     two : Answer
@@ -156,20 +154,20 @@ read_codable f = go (frame_answer f) whole
 
     whole : Codable (frame_answer f)
     whole =
-        lent_codable f (in_turn (time_read (time_in f)).answer (in_turn two three))
-        (turn_codable (time_read (time_in f)).answer (in_turn two three) (time_codable (time_in f))
+        lent_codable f (in_turn (answer_of (time_read (time_in f))) (in_turn two three))
+        (turn_codable (answer_of (time_read (time_in f))) (in_turn two three) (time_codable (time_in f))
         (turn_codable two three (subframe_codable Two (subframe_in Two f)) (subframe_codable Three (subframe_in Three f))))
 
-    go : (a : Answer) → Codable a → Codable (frame_by a (contents_in f) (time_read (time_in f)).corrected).answer
-    go Done h = h
-    go (Refused r) h = h
+    go : (a : Answer) → Codable a → Codable (answer_of (frame_by a (contents_in f) (time_read (time_in f)).corrected))
+    go (Ok tt) h = h
+    go (Err r) h = h
 
-pub time_alone_codable : (f : List ℕ) → Codable (time_alone f).answer
+pub time_alone_codable : (f : List ℕ) → Codable (answer_of (time_alone f))
 time_alone_codable f = go (frame_judged f Done) (lent_codable f Done done_codable)
   where
-    go : (a : Answer) → Codable a → Codable (time_by a (time_read (time_in f))).answer
-    go Done h = time_codable (time_in f)
-    go (Refused r) h = h
+    go : (a : Answer) → Codable a → Codable (answer_of (time_by a (time_read (time_in f))))
+    go (Ok tt) h = time_codable (time_in f)
+    go (Err r) h = h
 
 pub alone_codable : (s : Subframe) (f : List ℕ) → Codable (alone_answer s f)
 alone_codable s f = subst Codable (sym (alone_is s f)) (lent_codable f (subframe_answer s (subframe_in s f)) (subframe_codable s (subframe_in s f)))

@@ -1,10 +1,8 @@
 -- What the calls on sheets answer is reported by their numbers.
 -- Assumes nothing.
-use Rattle.std.specs.Prelude.{◌≡◌, refl, Bool, true, false, cond, not, List, [], ◌∷◌, ◌++◌, ℕ, suc, ◌+◌, ◌≤◌, ◌<◌, eqb, leb, ℤ, pos, length, get_or, drop}
+use Rattle.std.specs.Prelude.{◌≡◌, refl, Bool, true, false, cond, not, List, [], ◌∷◌, ◌++◌, ℕ, suc, ◌+◌, ◌≤◌, ◌<◌, eqb, leb, ℤ, pos, length, get_or, drop, Err, Ok}
 use Rattle.std.proofs.Common.{sym, ap, ◌∙◌, subst, arith, length-append, eqb-true}
-use Rattle.words.specs.Refusal.{LENGTH, TIME, LINE, NAME, NAME_AGAIN, NUMBER, NAME_MISSING, TRAILER, ROOM, done_if, in_turn}
-use Rattle.words.specs.declared.refusal.Answer.{Answer}
-use Rattle.words.specs.declared.refusal.Answer.TheVariants.{Done, Refused}
+use Rattle.words.specs.Refusal.{LENGTH, TIME, LINE, NAME, NAME_AGAIN, NUMBER, NAME_MISSING, TRAILER, ROOM, done_if, in_turn, Answer, Done, answer_of}
 use Rattle.words.specs.Laws.Turns.{both_done, test_done}
 use Rattle.fields.specs.Table.{no_field}
 use Rattle.fields.specs.Counts.{in_range}
@@ -75,24 +73,24 @@ body_codable l h = lines_codable [] 0 (lines_in l) (after_last LINE_END l) few
           ap (λ (x : List ℕ). length x) (parts_back LINE_END l),
         )
 
-pub sheet_codable : (s : List ℕ) → Codable (sheet_read s).answer
+pub sheet_codable : (s : List ℕ) → Codable (answer_of (sheet_read s))
 unfolding sheet_read
 sheet_codable s = go (sheet_answer s) (tested_codable (has_trailer s) TRAILER 0 (body_answer (lines_bytes s)) (λ e. omega arith) (omega arith)
     (λ e. body_codable (lines_bytes s) (omega (arith, trailer_few s e))))
   where
-    go : (a : Answer) → Codable a → Codable (sheet_by a (numbers_in (lines_in (lines_bytes s))) (start_of s)).answer
-    go Done h = h
-    go (Refused r) h = h
+    go : (a : Answer) → Codable a → Codable (answer_of (sheet_by a (numbers_in (lines_in (lines_bytes s))) (start_of s)))
+    go (Ok tt) h = h
+    go (Err r) h = h
 
-pub written_answer : (zs : List ℤ) (out : List ℕ) → (sheet_written zs out).answer ≡ write_answer zs out
+pub written_answer : (zs : List ℤ) (out : List ℕ) → answer_of (sheet_written zs out) ≡ write_answer zs out
 unfolding sheet_written
 written_answer zs out = go (write_answer zs out)
   where
-    go : (a : Answer) → (written_by a (length (sheet_text zs))).answer ≡ a
-    go Done = refl
-    go (Refused r) = refl
+    go : (a : Answer) → answer_of (written_by a (length (sheet_text zs))) ≡ a
+    go (Ok tt) = refl
+    go (Err r) = refl
 
-pub written_codable : (zs : List ℤ) (out : List ℕ) → Codable (sheet_written zs out).answer
+pub written_codable : (zs : List ℤ) (out : List ℕ) → Codable (answer_of (sheet_written zs out))
 written_codable zs out =
     subst Codable (sym (written_answer zs out))
     (turn_codable (done_if (eqb (length zs) NUMBERS) LENGTH 0) _ (at_0 (eqb (length zs) NUMBERS) LENGTH (λ e. omega arith))
@@ -104,13 +102,13 @@ written_codable zs out =
     at_0 : (t : Bool) (n : ℕ) → (n ≡ 0 → ⊥) → Codable (done_if t n 0)
     at_0 t n some = test_codable t n 0 some (λ e. omega arith)
 
-pub written_few : (zs : List ℤ) (out : List ℕ) → (sheet_written zs out).answer ≡ Done → (sheet_written zs out).size ≤ 800
+pub written_few : (zs : List ℤ) (out : List ℕ) → answer_of (sheet_written zs out) ≡ Done → size_written (sheet_written zs out) ≤ 800
 unfolding sheet_written
 written_few zs out done = go (write_answer zs out) (sym (written_answer zs out) ∙ done)
   where
     go : (a : Answer) → write_answer zs out ≡ Done → (written_by a (length (sheet_text zs))).size ≤ 800
-    go Done e =
+    go (Ok tt) e =
         let parts = both_done (done_if (eqb (length zs) NUMBERS) LENGTH 0) (in_turn (numbers_answer zs) (room_answer (sheet_text zs) out)) e in
         let numbers = both_done (numbers_answer zs) (room_answer (sheet_text zs) out) parts.1 in
         sheet_short zs (eqb-true (length zs) NUMBERS (test_done (eqb (length zs) NUMBERS) LENGTH 0 parts.0)) numbers.0
-    go (Refused r) e = omega arith
+    go (Err r) e = omega arith

@@ -1,39 +1,54 @@
--- A refusal written part by part, and how long it is.
+-- A number or a sheet put behind what is there, and a refusal, part by part.
 -- Assumes nothing.
-use mathlib.Core.Path.{refl}
+use mathlib.Core.Path.{◌≡◌}
 use mathlib.Core.List.{List, [], ◌∷◌, ◌++◌}
 use Prim.Native.Nat.{ℕ, ◌+◌, ◌≤◌, ◌<◌, ◌^◌}
 use native.Mathlib.Omega.{arith}
-use lib.ListN.{length, set, length-append}
+use lib.IntN.{ℤ}
+use lib.ListN.{length}
+use Rattle.fields.specs.Counts.{AllInRange}
 use Rattle.sheets.specs.Text.{LINE_END, bytes_in}
+use Rattle.sheets.specs.List.{sheet_fields}
 use Rattle.sheets.specs.Number.{decimal}
-use Rattle.sheets.specs.Laws.Lengths.{decimal_short}
-use Rattle.programs.specs.Output.{refusal_text}
-use Rattle.programs.specs.Laws.Output.{Puts, puts_on}
+use Rattle.sheets.specs.Write.{text_written, text_bytes, sheet_text, sheet_written, written_bytes}
+use Rattle.sheets.specs.Laws.Lengths.{decimal_short, lines_short, sheet_long}
+use Rattle.sheets.specs.declared.write.Written.{Written}
+use Rattle.programs.specs.Output.{OUTPUT_BYTES, refusal_text}
+use Rattle.programs.specs.Laws.Output.{Puts, Adds, adds_on, part_from, with_part, text_put, sheet_put}
+use Rattle.programs.specs.declared.output.Output.{Output}
 
--- each part behind the one before
-pub refusal_put : (number place : ℕ) (out : List ℕ) (n₁ : ℕ) (o₁ : List ℕ) → Puts out 0 (bytes_in "refused ") n₁ o₁
-    → (n₂ : ℕ) (o₂ : List ℕ) → Puts o₁ n₁ (decimal number) n₂ o₂ → (n₃ : ℕ) (o₃ : List ℕ) → Puts o₂ n₂ (bytes_in " at ") n₃ o₃
-    → (n₄ : ℕ) (o₄ : List ℕ) → Puts o₃ n₃ (decimal place) n₄ o₄ → Puts out 0 (refusal_text number place) (n₄ + 1) (set o₄ n₄ LINE_END)
-unfolding refusal_text
-refusal_put number place out n₁ o₁ p₁ n₂ o₂ p₂ n₃ o₃ p₃ n₄ o₄ p₄ =
-    let end = decimal place ++ LINE_END ∷ [] in
-    let all = set o₄ n₄ LINE_END in
-    puts_on out 0 (bytes_in "refused ") (decimal number ++ (bytes_in " at " ++ end)) n₁ o₁ (n₄ + 1) all p₁
-    (puts_on o₁ n₁ (decimal number) (bytes_in " at " ++ end) n₂ o₂ (n₄ + 1) all p₂
-    (puts_on o₂ n₂ (bytes_in " at ") end n₃ o₃ (n₄ + 1) all p₃
-    (puts_on o₃ n₃ (decimal place) (LINE_END ∷ []) n₄ o₄ (n₄ + 1) all p₄ (refl, refl))))
+-- the digits of a number of 64 bits are at most 20
+pub digits_put : (number : ℕ) (o : Output) → number < 2 ^ 64 → length o.bytes ≡ OUTPUT_BYTES → o.size + 20 ≤ OUTPUT_BYTES
+    → (written : Written) (part : List ℕ) → written ≡ text_written (decimal number) (part_from OUTPUT_BYTES o.size o.bytes)
+    → part ≡ text_bytes (decimal number) (part_from OUTPUT_BYTES o.size o.bytes)
+    → Puts o.bytes o.size (decimal number) (o.size + written.size) (with_part OUTPUT_BYTES o.size o.bytes part)
+    × (o.size + written.size ≤ o.size + 20)
+digits_put number o h long room written part w e =
+    let few = decimal_short number h in
+    let put = text_put (decimal number) o.bytes OUTPUT_BYTES o.size long (omega (arith, few)) written part w e in
+    (put, omega (arith, put.0, few))
 
--- numbers of 64 bits have at most 20 digits
-pub refusal_short : (number place : ℕ) → number < 2 ^ 64 → place < 2 ^ 64 → length (refusal_text number place) ≤ 53
+-- a sheet of good numbers has at most 800 bytes
+sheet_most : (zs : List ℤ) → AllInRange sheet_fields zs → length (sheet_text zs) ≤ 800
+sheet_most zs range = omega (arith, sheet_long zs, lines_short zs range)
+
+pub good_sheet_put : (zs : List ℤ) (o : Output) → AllInRange sheet_fields zs → length o.bytes ≡ OUTPUT_BYTES → o.size + 800 ≤ OUTPUT_BYTES
+    → (written : Written) (part : List ℕ) → written ≡ sheet_written zs (part_from OUTPUT_BYTES o.size o.bytes)
+    → part ≡ written_bytes zs (part_from OUTPUT_BYTES o.size o.bytes)
+    → Puts o.bytes o.size (sheet_text zs) (o.size + written.size) (with_part OUTPUT_BYTES o.size o.bytes part)
+    × (o.size + written.size ≤ o.size + 800)
+good_sheet_put zs o range long room written part w e =
+    let few = sheet_most zs range in
+    let put = sheet_put zs o.bytes OUTPUT_BYTES o.size range long (omega (arith, few)) written part w e in
+    (put, omega (arith, put.0, few))
+
+-- a refusal, each part behind the one before
+pub refusal_added : (number place : ℕ) (o₀ o₁ o₂ o₃ o₄ o₅ : Output) → Adds o₀ (bytes_in "refused ") o₁ → Adds o₁ (decimal number) o₂
+    → Adds o₂ (bytes_in " at ") o₃ → Adds o₃ (decimal place) o₄ → Adds o₄ (LINE_END ∷ []) o₅ → Adds o₀ (refusal_text number place) o₅
 unfolding refusal_text
-refusal_short number place h k =
+refusal_added number place o₀ o₁ o₂ o₃ o₄ o₅ a₁ a₂ a₃ a₄ a₅ =
     let end = decimal place ++ LINE_END ∷ [] in
-    let middle = bytes_in " at " ++ end in
-    omega (
-      arith,
-      length-append (decimal place) (LINE_END ∷ []),
-      length-append (decimal number) middle,
-      decimal_short number h,
-      decimal_short place k,
-    )
+    adds_on o₀ (bytes_in "refused ") (decimal number ++ (bytes_in " at " ++ end)) o₁ o₅ a₁
+    (adds_on o₁ (decimal number) (bytes_in " at " ++ end) o₂ o₅ a₂
+    (adds_on o₂ (bytes_in " at ") end o₃ o₅ a₃
+    (adds_on o₃ (decimal place) (LINE_END ∷ []) o₄ o₅ a₄ a₅)))

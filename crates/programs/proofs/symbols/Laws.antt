@@ -1,68 +1,78 @@
 -- Symbols and characters from an index on, as the loops walk them, and characters judged case by case.
 -- Assumes nothing.
-use mathlib.Core.Path.{◌≡◌, refl, ap, ◌∙◌}
-use mathlib.Core.Bool.{true, false}
+use mathlib.Core.Path.{◌≡◌, refl, sym, ap, ◌∙◌}
+use mathlib.Core.Bool.{Bool, true, false, not, cond}
 use mathlib.Core.List.{List, ◌++◌, append-nil}
 use Prim.Native.Nat.{ℕ, suc, ◌+◌, ◌-◌, ◌≤◌, ◌<◌}
 use native.Mathlib.Numerals.{add-one}
 use native.Mathlib.Omega.{arith}
 use lib.ListN.{length, get_or, drop, set, drop_of_length-le}
 use lib.Seq.{sets, drop-cons}
-use borrow.Author.Tests.{eq-eqb, ne_eqb}
+use borrow.Author.Tests.{eq-eqb, ne_eqb, ltb-false}
 use Rattle.words.specs.Refusal.{LENGTH, NOT_A_BIT, refused_at, left_by}
 use Rattle.words.specs.declared.refusal.Answer.{Answer}
 use Rattle.words.specs.declared.refusal.Answer.TheVariants.{Done}
 use Rattle.sheets.specs.Laws.Sets.{sets_front}
 use Rattle.programs.specs.Symbols.{ZERO, is_symbol, first_other, symbols_in, characters_of, symbols_answer}
-use Rattle.programs.specs.Laws.Symbols.{symbols_long}
+use Rattle.programs.specs.Laws.Symbols.{other_le}
+use Rattle.std.specs.List.{position, position_or_len}
+use Rattle.std.specs.Prelude.{Some, None, nat_lt, unwrap_or}
+use Rattle.std.proofs.lemmas.List.Recursion.{is_position_or_len}
+
+-- ---- the first other character
+
+abbrev pub is_other : ℕ → Bool
+is_other c = not (is_symbol c)
+
+module _ (l : List ℕ) where
+  other_place : position_or_len is_other l ≡ first_other l
+  unfolding first_other
+  other_place = sym (is_position_or_len first_other is_other refl (λ c m. step (is_symbol c) (first_other m)) l)
+    where
+      step : (t : Bool) (n : ℕ) → cond t (suc n) 0 ≡ cond (not t) 0 (1 + n)
+      step true n = omega arith
+      step false n = refl
+
+  -- as it is searched for
+  pub other_found : unwrap_or (position is_other l) (length l) ≡ first_other l
+  other_found = go (nat_lt (position_or_len is_other l) (length l)) refl
+    where
+      go : (t : Bool) → nat_lt (position_or_len is_other l) (length l) ≡ t
+          → unwrap_or (cond t (Some (position_or_len is_other l)) None) (length l) ≡ first_other l
+      go true e = other_place
+      go false e = omega (arith, other_place, other_le l, ltb-false (position_or_len is_other l) (length l) e)
 
 -- ---- a turn
 
-module _ (l : List ℕ) (i : ℕ) (h : i < length l) where
-  -- the first other character is here, or further on
-  pub other_here : is_symbol (get_or l i 0) ≡ false → first_other (drop i l) ≡ 0
-  unfolding first_other
-  other_here e = rw (drop-cons l i 0 h, first_other, e)
-
-  pub other_on : is_symbol (get_or l i 0) ≡ true → first_other (drop i l) ≡ suc (first_other (drop (i + 1) l))
-  unfolding first_other
-  other_on e = rw (add-one, drop-cons l i 0 h, first_other, e)
-
+module _ (l : List ℕ) (i : ℕ) (h : i < length l) (o : List ℕ) where
   -- one more symbol is written, and one fewer is left to write
-  pub symbol_put : (o : List ℕ) → sets (set o i (get_or l i 0 - ZERO)) (i + 1) (symbols_in (drop (i + 1) l)) ≡ sets o i (symbols_in (drop i l))
+  pub symbol_put : sets (set o i (get_or l i 0 - ZERO)) (i + 1) (symbols_in (drop (i + 1) l)) ≡ sets o i (symbols_in (drop i l))
   unfolding symbols_in
-  symbol_put o = rw (add-one, drop-cons l i 0 h, symbols_in)
+  symbol_put = rw (add-one, drop-cons l i 0 h, symbols_in)
 
   -- and one more character
-  pub character_put : (o : List ℕ) (at : ℕ)
-      → sets (set o (at + i) (ZERO + get_or l i 0)) (at + (i + 1)) (characters_of (drop (i + 1) l)) ≡ sets o (at + i) (characters_of (drop i l))
+  pub character_put : sets (set o i (ZERO + get_or l i 0)) (i + 1) (characters_of (drop (i + 1) l)) ≡ sets o i (characters_of (drop i l))
   unfolding characters_of
-  character_put o at =
-      let e : at + suc i ≡ suc (at + i) = omega arith in
-      rw (add-one, e, drop-cons l i 0 h, characters_of)
+  character_put = rw (add-one, drop-cons l i 0 h, characters_of)
 
 -- ---- at the end
 
-module _ (l : List ℕ) (i : ℕ) (h : length l ≤ i) where
-  pub other_end : first_other (drop i l) ≡ 0
-  unfolding first_other
-  other_end = ap first_other (drop_of_length-le l h)
-
-  pub symbols_end : (o : List ℕ) → sets o i (symbols_in (drop i l)) ≡ o
+module _ (l : List ℕ) (i : ℕ) (h : length l ≤ i) (o : List ℕ) where
+  pub symbols_end : sets o i (symbols_in (drop i l)) ≡ o
   unfolding symbols_in
-  symbols_end o = ap (λ (r : List ℕ). sets o i (symbols_in r)) (drop_of_length-le l h)
+  symbols_end = ap (λ (r : List ℕ). sets o i (symbols_in r)) (drop_of_length-le l h)
 
-  pub characters_end : (o : List ℕ) (at : ℕ) → sets o at (characters_of (drop i l)) ≡ o
+  pub characters_end : sets o i (characters_of (drop i l)) ≡ o
   unfolding characters_of
-  characters_end o at = ap (λ (r : List ℕ). sets o at (characters_of r)) (drop_of_length-le l h)
+  characters_end = ap (λ (r : List ℕ). sets o i (characters_of r)) (drop_of_length-le l h)
 
--- symbols over as many bytes: nothing else is left
-pub all_written : (l o : List ℕ) → length l ≡ length o → sets o 0 (symbols_in l) ≡ symbols_in l
+-- a text over as many bytes: nothing else is left
+pub all_written : (l o : List ℕ) → length l ≡ length o → sets o 0 l ≡ l
 all_written l o e =
-    let none : length o ≤ length (symbols_in l) = omega (arith, symbols_long l) in
-    sets_front (symbols_in l) o (omega (arith, symbols_long l))
-    ∙ ap (λ (r : List ℕ). symbols_in l ++ r) (drop_of_length-le o none)
-    ∙ append-nil (symbols_in l)
+    let none : length o ≤ length l = omega arith in
+    sets_front l o (omega arith)
+    ∙ ap (λ (r : List ℕ). l ++ r) (drop_of_length-le o none)
+    ∙ append-nil l
 
 -- ---- characters judged
 

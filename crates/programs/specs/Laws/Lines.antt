@@ -59,18 +59,22 @@ pub symbol_line_on : (l rest : List ℕ) → symbol_line l ++ rest ≡ character
 unfolding symbol_line
 symbol_line_on l rest = append_assoc (characters_of l) (LINE_END ∷ []) rest
 
+-- a line and its last byte
+pub line_before : (line : List ℕ) (x : ℕ) → frame_line (line ++ x ∷ []) ≡ line
+unfolding frame_line
+line_before line x = take_at line (x ∷ []) (length (line ++ x ∷ []) - 1) (omega (arith, length-append line (x ∷ [])))
+
+pub line_ends : (line : List ℕ) (x : ℕ) → get_or (line ++ x ∷ []) (length (line ++ x ∷ []) - 1) 0 ≡ x
+line_ends line x = get_or_at line x [] 0 (length (line ++ x ∷ []) - 1) (omega (arith, length-append line (x ∷ [])))
+
 -- a symbol line without its last byte
 pub frame_line_is : (l : List ℕ) → frame_line (symbol_line l) ≡ characters_of l
-unfolding frame_line symbol_line
-frame_line_is l =
-    take_at (characters_of l) (LINE_END ∷ []) (length (characters_of l ++ LINE_END ∷ []) - 1)
-    (omega (arith, length-append (characters_of l) (LINE_END ∷ [])))
+unfolding symbol_line
+frame_line_is l = line_before (characters_of l) LINE_END
 
 pub symbol_line_ends : (l : List ℕ) → get_or (symbol_line l) (length (symbol_line l) - 1) 0 ≡ LINE_END
 unfolding symbol_line
-symbol_line_ends l =
-    get_or_at (characters_of l) LINE_END [] 0 (length (characters_of l ++ LINE_END ∷ []) - 1)
-    (omega (arith, length-append (characters_of l) (LINE_END ∷ [])))
+symbol_line_ends l = line_ends (characters_of l) LINE_END
 
 -- different symbols have different lines
 pub lines_differ : (l m : List ℕ) → symbol_line l ≡ symbol_line m → l ≡ m

@@ -4,17 +4,18 @@ use Rattle.std.specs.Prelude.{◌≡◌, Bool, List, ◌++◌, ℕ, ◌+◌, ◌
 use Rattle.std.proofs.Common.{sym, ap₂, ◌∙◌, append-nil, append_assoc, arith, length-append, length-drop, drop_of_length-le, drop-drop}
 use Rattle.std.proofs.Math.Path.{ap}
 use Rattle.std.proofs.lemmas.List.{length-replicate}
+use Rattle.std.proofs.Math.Seq.{take_all}
 use Rattle.std.proofs.lemmas.List.Edits.{sets, sets-eq}
 use borrow.Author.Tests.{le-leb}
 use Rattle.words.specs.Refusal.{ROOM, done_if, left_by}
 use Rattle.fields.specs.Counts.{AllInRange}
-use Rattle.parity.specs.Laws.Parts.{rest_part}
 use Rattle.sheets.specs.List.{sheet_fields}
 use Rattle.sheets.specs.Write.{sheet_text, put_first, written_by, sheet_written, written_bytes, text_written, text_bytes}
 use Rattle.sheets.specs.Writing.{write_exactly, write_bytes}
 use Rattle.sheets.specs.Laws.Sets.{sets_append, sets_front}
 use Rattle.sheets.specs.declared.write.Written.{Written}
-use Rattle.programs.specs.Output.{OUTPUT_BYTES, output_of}
+use Rattle.programs.specs.Output.{OUTPUT_BYTES, symbol_line, output_of}
+use Rattle.programs.specs.Laws.Lines.{symbol_line_long}
 use Rattle.programs.specs.declared.output.Output.{Output}
 
 -- ---- one text after another
@@ -31,60 +32,82 @@ puts_on l at u v mid m end o first second = (
   second.1 ∙ ap₂ (λ (x : List ℕ) (n : ℕ). sets x n v) first.1 first.0 ∙ sym (sets_append u v l at),
 )
 
--- ---- a text written into the part of the lent bytes from `at` on
+-- the same of what is printed
+abbrev pub Adds : Output → List ℕ → Output → Type 0
+Adds o text p = Puts o.bytes o.size text p.size p.bytes
+
+pub adds_on : (o : Output) (u v : List ℕ) (m p : Output) → Adds o u m → Adds m v p → Adds o (u ++ v) p
+adds_on o u v m p first second = puts_on o.bytes o.size u v m.size m.bytes p.size p.bytes first second
+
+pub line_added : (o : Output) (symbols : List ℕ) (p : Output) → p.size ≡ o.size + (length symbols + 1)
+    → p.bytes ≡ sets o.bytes o.size (symbol_line symbols) → Adds o (symbol_line symbols) p
+line_added o symbols p size bytes = (omega (arith, symbol_line_long symbols), bytes)
+
+-- ---- a text written into the part from `at` on of n bytes
 
 -- the part that is lent, and the whole when it is back
-abbrev pub part_from : ℕ → List ℕ → List ℕ
-part_from at out = take (length out - at) (drop at out)
+abbrev pub part_from : ℕ → ℕ → List ℕ → List ℕ
+part_from n at out = take (n - at) (drop at out)
 
-abbrev pub with_part : ℕ → List ℕ → List ℕ → List ℕ
-with_part at out part = take at out ++ (part ++ drop (length out - at) (drop at out))
+abbrev pub with_part : ℕ → ℕ → List ℕ → List ℕ → List ℕ
+with_part n at out part = take at out ++ (part ++ drop (n - at) (drop at out))
 
-module _ (text out : List ℕ) (at : ℕ) (room : at + length text ≤ length out) where
-  room_in_part : length text ≤ length (part_from at out)
-  room_in_part = omega (arith, ap length (rest_part at out), length-drop at out)
+module _ (text out : List ℕ) (n at : ℕ) (long : length out ≡ n) (room : at + length text ≤ n) where
+  -- the text put in the place of as many bytes
+  pub text_set : take at out ++ (text ++ drop (length text) (drop at out)) ≡ sets out at text
+  text_set =
+      ap (λ (r : List ℕ). take at out ++ (text ++ r)) (drop-drop (length text) at out)
+      ∙ sym (append_assoc (take at out) text (drop (at + length text) out))
+      ∙ sym (sets-eq text out at (omega arith))
 
-  part_put : (size : ℕ) (part : List ℕ) → size ≡ length text → part ≡ put_first text (part_from at out)
-      → Puts out at text (at + size) (with_part at out part)
+  part_whole : part_from n at out ≡ drop at out
+  part_whole = take_all (n - at) (drop at out) (omega (arith, length-drop at out))
+
+  room_in_part : length text ≤ length (part_from n at out)
+  room_in_part = omega (arith, ap length part_whole, length-drop at out)
+
+  part_put : (size : ℕ) (part : List ℕ) → size ≡ length text → part ≡ put_first text (part_from n at out)
+      → Puts out at text (at + size) (with_part n at out part)
   part_put size part s e =
-      let none = drop_of_length-le (drop at out) {i = length out - at} (omega (arith, length-drop at out)) in (
-        ap (λ (n : ℕ). at + n) s,
+      let none = drop_of_length-le (drop at out) {i = n - at} (omega (arith, length-drop at out)) in (
+        ap (λ (k : ℕ). at + k) s,
         ap₂ (λ (p r : List ℕ). take at out ++ (p ++ r)) e none
-            ∙ ap (λ (p : List ℕ). take at out ++ p) (append-nil (put_first text (part_from at out)))
-            ∙ ap (λ (r : List ℕ). take at out ++ (text ++ drop (length text) r)) (rest_part at out)
-            ∙ ap (λ (r : List ℕ). take at out ++ (text ++ r)) (drop-drop (length text) at out)
-            ∙ sym (append_assoc (take at out) text (drop (at + length text) out))
-            ∙ sym (sets-eq text out at room),
+            ∙ ap (λ (p : List ℕ). take at out ++ p) (append-nil (put_first text (part_from n at out)))
+            ∙ ap (λ (r : List ℕ). take at out ++ (text ++ drop (length text) r)) part_whole
+            ∙ text_set,
       )
 
-  pub text_put : (written : Written) (part : List ℕ) → written ≡ text_written text (part_from at out) → part ≡ text_bytes text (part_from at out)
-      → Puts out at text (at + written.size) (with_part at out part)
+  pub text_put : (written : Written) (part : List ℕ) → written ≡ text_written text (part_from n at out)
+      → part ≡ text_bytes text (part_from n at out) → Puts out at text (at + written.size) (with_part n at out part)
   unfolding text_written text_bytes
   text_put written part w e =
-      let fits = le-leb (length text) (length (part_from at out)) room_in_part in
+      let fits = le-leb (length text) (length (part_from n at out)) room_in_part in
       part_put written.size part (ap (λ (r : Written). r.size) w ∙ ap (λ (t : Bool). (written_by (done_if t ROOM 0) (length text)).size) fits)
-      (e ∙ ap (λ (t : Bool). left_by (done_if t ROOM 0) (put_first text (part_from at out)) (part_from at out)) fits)
+      (e ∙ ap (λ (t : Bool). left_by (done_if t ROOM 0) (put_first text (part_from n at out)) (part_from n at out)) fits)
 
 -- a sheet of good numbers in the same way
-module _ (zs : List ℤ) (out : List ℕ) (at : ℕ) (range : AllInRange sheet_fields zs) (room : at + length (sheet_text zs) ≤ length out) where
-  pub sheet_put : (written : Written) (part : List ℕ) → written ≡ sheet_written zs (part_from at out) → part ≡ written_bytes zs (part_from at out)
-      → Puts out at (sheet_text zs) (at + written.size) (with_part at out part)
+module _ (zs : List ℤ) (out : List ℕ) (n at : ℕ) (range : AllInRange sheet_fields zs) (long : length out ≡ n)
+    (room : at + length (sheet_text zs) ≤ n) where
+  pub sheet_put : (written : Written) (part : List ℕ) → written ≡ sheet_written zs (part_from n at out)
+      → part ≡ written_bytes zs (part_from n at out) → Puts out at (sheet_text zs) (at + written.size) (with_part n at out part)
   sheet_put written part w e =
-      let answer = (write_exactly zs (part_from at out)).1 (range, room_in_part (sheet_text zs) out at room) in
-      let is = write_bytes zs (part_from at out) answer in
-      part_put (sheet_text zs) out at room written.size part (ap (λ (r : Written). r.size) (w ∙ is.1)) (e ∙ is.0)
+      let answer = (write_exactly zs (part_from n at out)).1 (range, room_in_part (sheet_text zs) out n at long room) in
+      let is = write_bytes zs (part_from n at out) answer in
+      part_put (sheet_text zs) out n at long room written.size part (ap (λ (r : Written). r.size) (w ∙ is.1)) (e ∙ is.0)
 
 -- ---- what is printed
 
--- the text and zeros behind it
-pub output_is : (text : List ℕ) (size : ℕ) (bytes : List ℕ) → length text ≤ OUTPUT_BYTES → size ≡ length text
-    → bytes ≡ sets (replicate OUTPUT_BYTES 0) 0 text → record { bytes = bytes; size = size } ≡ output_of text
+-- a text over zeros, and zeros behind it
+pub output_is : (text : List ℕ) (o p : Output) → o.size ≡ 0 → o.bytes ≡ replicate OUTPUT_BYTES 0 → Adds o text p → p.size ≤ OUTPUT_BYTES
+    → p ≡ output_of text
 unfolding output_of
-output_is text size bytes short s e =
+output_is text o p none zeros added fits =
     let whole : List ℕ → ℕ → Output = λ (b : List ℕ) (n : ℕ). record { bytes = b; size = n } in
+    let size : p.size ≡ length text = omega (arith, added.0, none) in
     ap₂ whole
-    (e ∙ sets_front text (replicate OUTPUT_BYTES 0) (omega (arith, length-replicate {A = ℕ} OUTPUT_BYTES 0)))
-    s
+    (added.1 ∙ ap₂ (λ (b : List ℕ) (n : ℕ). sets b n text) zeros none
+    ∙ sets_front text (replicate OUTPUT_BYTES 0) (omega (arith, length-replicate {A = ℕ} OUTPUT_BYTES 0)))
+    size
 
 -- as many bytes as there is room for are there
 pub size_inside : (text : List ℕ) (r : Output) → r ≡ output_of text → r.size ≤ OUTPUT_BYTES → r.size ≤ length r.bytes

@@ -1,5 +1,7 @@
 -- Reading lines from a place on: what is read of a line against its answer, and how far reading has come.
 -- Assumes nothing.
+use Rattle.std.specs.Prelude.{map, Option, Some, None, is_some, is_none, unwrap_or, Result, Ok, Err}
+use Rattle.std.specs.List.{position_or_len}
 use mathlib.Core.Path.{◌≡◌, refl, sym, ap, ap₂, ◌∙◌}
 use mathlib.Core.Bool.{Bool, true, false, cond, not}
 use mathlib.Core.List.{List, [], ◌∷◌, ◌++◌, append-nil, append_assoc}
@@ -24,22 +26,19 @@ use Rattle.sheets.specs.Sheet.{no_sheet, sheet_is, sheet_by}
 use Rattle.sheets.specs.Laws.Steps.{named_line, line_by, line_read, finished_sheet}
 use Rattle.sheets.specs.Laws.Text.{index_le, parts_none, rest_none, parts_from, rest_cut}
 use Rattle.sheets.specs.Laws.List.{position_name}
-use Rattle.sheets.specs.Laws.Lines.{given_many, given_at, given_set, numbers_set, missing_le}
-use Rattle.sheets.specs.declared.number.Number.TheVariants.{Is, IsNot}
-use Rattle.sheets.specs.declared.lines.Line.{Line}
-use Rattle.sheets.specs.declared.lines.Line.TheVariants.{Gives, Refused}
+use Rattle.sheets.specs.Laws.Lines.{given_many, missing_le, found_in, found_many, found_at, found_set, missing_found, numbers_or}
 
 -- ---- a line
 
 -- the answer to a line at a place, by what was read of it
-abbrev answer_by : ℕ → Line → Answer
-answer_by place (Gives k z) = Done
-answer_by place (Refused n) = refused_at n place
+abbrev answer_by : ℕ → Result (ℕ × ℤ) ℕ → Answer
+answer_by place (Ok (k, z)) = Done
+answer_by place (Err n) = refused_at n place
 
 -- what is read of a line by four tests: it has its `=`, its name is listed, its name is given, its number is right
-abbrev read_by : Bool → Bool → Bool → Bool → ℕ → ℤ → Line
+abbrev read_by : Bool → Bool → Bool → Bool → ℕ → ℤ → Result (ℕ × ℤ) ℕ
 read_by equals listed again right k z =
-    cond equals (cond listed (cond again (Refused NAME_AGAIN) (line_by k (cond right (Is z) IsNot))) (Refused NAME)) (Refused LINE)
+    cond equals (cond listed (cond again (Err NAME_AGAIN) (line_by k (cond right (Some z) None))) (Err NAME)) (Err LINE)
 
 answer_tests : (equals listed given again right : Bool) (place k : ℕ) (z : ℤ) → (listed ≡ true → again ≡ given)
     → in_turn (done_if equals LINE place)
@@ -51,31 +50,33 @@ answer_tests true true true again right place k z h = rw (h refl)
 answer_tests true true false again true place k z h = rw (h refl)
 answer_tests true true false again false place k z h = rw (h refl)
 
-gives_tests : (equals listed again right : Bool) (i k : ℕ) (y z : ℤ) → read_by equals listed again right i y ≡ Gives k z
+gives_tests : (equals listed again right : Bool) (i k : ℕ) (y z : ℤ) → read_by equals listed again right i y ≡ Ok (k, z)
     → (listed ≡ true) × (again ≡ false) × (i ≡ k) × (y ≡ z)
 gives_tests false listed again right i k y z e = let w : ◌≡◌ {A = ℕ} 0 1 = cc in absurd (omega arith)
 gives_tests true false again right i k y z e = let w : ◌≡◌ {A = ℕ} 0 1 = cc in absurd (omega arith)
 gives_tests true true true right i k y z e = let w : ◌≡◌ {A = ℕ} 0 1 = cc in absurd (omega arith)
 gives_tests true true false false i k y z e = let w : ◌≡◌ {A = ℕ} 0 1 = cc in absurd (omega arith)
-gives_tests true true false true i k y z e = (refl, refl, cc, cc)
+gives_tests true true false true i k y z e =
+    let p : ◌≡◌ {A = ℕ × ℤ} (i, y) (k, z) = cc in
+    (refl, refl, ap (λ (q : ℕ × ℤ). q.0) p, ap (λ (q : ℕ × ℤ). q.1) p)
 
 module _ (earlier : List (List ℕ)) (line : List ℕ) where
   abbrev position : ℕ
   position = position_in (name_in line) sheet_names
 
-  given_there : is_listed (name_in line) ≡ true → get_or (given_in earlier) position false ≡ is_given (name_in line) earlier
+  given_there : is_listed (name_in line) ≡ true → is_some (get_or (found_in earlier) position None) ≡ is_given (name_in line) earlier
   given_there e =
       let below = ltb-true position (length sheet_names) e in
-      given_at earlier position below ∙ ap (λ (name : List ℕ). is_given name earlier) (position_name (name_in line) sheet_names below)
+      found_at earlier position below ∙ ap (λ (name : List ℕ). is_given name earlier) (position_name (name_in line) sheet_names below)
 
-  line_answer_lem : (place : ℕ) → line_answer earlier place line ≡ answer_by place (line_read line (given_in earlier))
+  line_answer_lem : (place : ℕ) → line_answer earlier place line ≡ answer_by place (line_read line (found_in earlier))
   unfolding line_answer line_read named_line
   line_answer_lem place =
       answer_tests
       (has_equals line)
       (is_listed (name_in line))
       (is_given (name_in line) earlier)
-      (get_or (given_in earlier) position false)
+      (is_some (get_or (found_in earlier) position None))
       (is_number_of (field_named (name_in line)) (behind_equals line))
       place
       position
@@ -83,9 +84,9 @@ module _ (earlier : List (List ℕ)) (line : List ℕ) where
       given_there
 
   -- a line that gives a number: one name more is given
-  module _ (k : ℕ) (z : ℤ) (e : line_read line (given_in earlier) ≡ Gives k z) where
+  module _ (k : ℕ) (z : ℤ) (e : line_read line (found_in earlier) ≡ Ok (k, z)) where
     facts : (is_listed (name_in line) ≡ true)
-        × (get_or (given_in earlier) position false ≡ false)
+        × (is_some (get_or (found_in earlier) position None) ≡ false)
         × (position ≡ k)
         × (value_in (behind_equals line) ≡ z)
     unfolding line_read named_line
@@ -93,7 +94,7 @@ module _ (earlier : List (List ℕ)) (line : List ℕ) where
         gives_tests
         (has_equals line)
         (is_listed (name_in line))
-        (get_or (given_in earlier) position false)
+        (is_some (get_or (found_in earlier) position None))
         (is_number_of (field_named (name_in line)) (behind_equals line))
         position
         k
@@ -107,13 +108,10 @@ module _ (earlier : List (List ℕ)) (line : List ℕ) where
     gives_listed : k < length sheet_names
     gives_listed = omega (arith, listed, facts.2)
 
-    gives_given : set (given_in earlier) k true ≡ given_in (earlier ++ line ∷ [])
-    gives_given = ap (λ (i : ℕ). set (given_in earlier) i true) (sym facts.2) ∙ given_set earlier line listed
-
-    gives_numbers : set (numbers_in earlier) k z ≡ numbers_in (earlier ++ line ∷ [])
-    gives_numbers =
-        ap₂ (λ (i : ℕ) (y : ℤ). set (numbers_in earlier) i y) (sym facts.2) (sym facts.3)
-        ∙ numbers_set earlier line listed (sym (given_there facts.0) ∙ facts.1)
+    gives_found : set (found_in earlier) k (Some z) ≡ found_in (earlier ++ line ∷ [])
+    gives_found =
+        ap₂ (λ (i : ℕ) (y : ℤ). set (found_in earlier) i (Some y)) (sym facts.2) (sym facts.3)
+        ∙ found_set earlier line listed (sym (given_there facts.0) ∙ facts.1)
 
 -- ---- the lines of the bytes from a place on
 
@@ -148,18 +146,17 @@ module _ (earlier : List (List ℕ)) (l : List ℕ) (at n : ℕ) (e : n ≡ inde
 
 -- ---- how far reading has come
 
--- the lines before the place `at` are read: the answer to the rest is the answer to all, and these names and numbers are given so far
-pub record Progress (l : List ℕ) (at : ℕ) (numbers : List ℤ) (given : List Bool) : Type 0 where
+-- the lines before the place `at` are read: the answer to the rest is the answer to all, and these numbers are found so far
+pub record Progress (l : List ℕ) (at : ℕ) (found : List (Option ℤ)) : Type 0 where
   pub earlier : List (List ℕ)
   pub answer_left : answer_from earlier l at ≡ body_answer l
   pub lines_left : earlier ++ lines_in (drop at l) ≡ lines_in l
-  pub given_are : given ≡ given_in earlier
-  pub numbers_are : numbers ≡ numbers_in earlier
+  pub found_are : found ≡ found_in earlier
 
--- before the first line no name is given
-pub nothing_read : (l : List ℕ) → Progress l 0 (replicate NUMBERS (pos 0)) (replicate NUMBERS false)
-unfolding body_answer given_in numbers_in is_given number_given sheet_names sheet_rows subframe2_rows
-nothing_read l = record { earlier = []; answer_left = refl; lines_left = refl; given_are = refl; numbers_are = refl }
+-- before the first line no number is found
+pub nothing_read : (l : List ℕ) → Progress l 0 (replicate NUMBERS None)
+unfolding body_answer found_in is_given number_given sheet_names sheet_rows subframe2_rows
+nothing_read l = record { earlier = []; answer_left = refl; lines_left = refl; found_are = refl }
 
 -- all names are given, or one is missing
 not_below : (n m : ℕ) → n ≤ m → eqb n m ≡ not (ltb n m)
@@ -175,22 +172,27 @@ missing_by true number place zs before = refl
 missing_by false number place zs before = refl
 
 finished_answer : (lines : List (List ℕ)) (before : ℕ)
-    → finished_sheet (numbers_in lines) (given_in lines) before ≡ sheet_by (missing_answer lines) (numbers_in lines) before
+    → finished_sheet (found_in lines) before ≡ sheet_by (missing_answer lines) (numbers_in lines) before
 unfolding finished_sheet missing_answer
 finished_answer lines before =
     let n = first_missing (given_in lines) in
-    missing_by (ltb n (length sheet_names)) NAME_MISSING (n + 1) (numbers_in lines) before
+    let zs = map (λ (x : Option ℤ). unwrap_or x (pos 0)) (found_in lines) in
+    ap (λ (m : ℕ).
+    let i = position_or_len is_none (found_in lines) in cond (ltb i m) (no_sheet NAME_MISSING (i + 1)) (sheet_is zs before)) (found_many lines)
+    ∙ ap₂ (λ (i : ℕ) (ys : List ℤ). cond (ltb i (length sheet_names)) (no_sheet NAME_MISSING (i + 1)) (sheet_is ys before))
+    (missing_found lines) (numbers_or lines)
+    ∙ missing_by (ltb n (length sheet_names)) NAME_MISSING (n + 1) (numbers_in lines) before
     ∙ ap (λ (t : Bool). sheet_by (done_if t NAME_MISSING (n + 1)) (numbers_in lines) before)
     (sym (not_below n (length sheet_names) (omega (arith, missing_le (given_in lines), given_many lines))))
 
-module _ {l : List ℕ} {at : ℕ} {numbers : List ℤ} {given : List Bool} (p : Progress l at numbers given) where
+module _ {l : List ℕ} {at : ℕ} {found : List (Option ℤ)} (p : Progress l at found) where
   -- after the last line
   pub all_read : (before : ℕ) → length l ≤ at
-      → finished_sheet numbers given before ≡ sheet_by (body_answer l) (numbers_in (lines_in l)) before
+      → finished_sheet found before ≡ sheet_by (body_answer l) (numbers_in (lines_in l)) before
   unfolding lines_answer parts_ended after_last
   all_read before h =
       let none : drop at l ≡ [] = drop_of_length-le l h in
-      ap₂ (λ (zs : List ℤ) (g : List Bool). finished_sheet zs g before) p.numbers_are p.given_are
+      ap (λ (f : List (Option ℤ)). finished_sheet f before) p.found_are
       ∙ finished_answer p.earlier before
       ∙ ap₂ (λ (a : Answer) (lines : List (List ℕ)). sheet_by a (numbers_in lines) before)
       (ap (λ (rest : List ℕ). lines_answer p.earlier at (lines_in rest) (after_last LINE_END rest)) (sym none) ∙ p.answer_left)
@@ -209,9 +211,9 @@ module _ {l : List ℕ} {at : ℕ} {numbers : List ℤ} {given : List Bool} (p :
 
     module _ (h : at + n < length l) where
       -- what is read of it
-      module _ {x : Line} (r : line_read (take n (take (length l - at) (drop at l))) given ≡ x) where
-        line_there : line_read (take n (drop at l)) (given_in p.earlier) ≡ x
-        line_there = ap₂ line_read (ap (take n) (sym (part_to_end l at))) (sym p.given_are) ∙ r
+      module _ {x : Result (ℕ × ℤ) ℕ} (r : line_read (take n (take (length l - at) (drop at l))) found ≡ x) where
+        line_there : line_read (take n (drop at l)) (found_in p.earlier) ≡ x
+        line_there = ap₂ line_read (ap (take n) (sym (part_to_end l at))) (sym p.found_are) ∙ r
 
         next_answer : body_answer l ≡ in_turn (answer_by at x) (answer_from (p.earlier ++ take n (drop at l) ∷ []) l (at + n + 1))
         next_answer =
@@ -220,15 +222,15 @@ module _ {l : List ℕ} {at : ℕ} {numbers : List ℤ} {given : List Bool} (p :
             ∙ ap (λ (a : Answer). in_turn a (answer_from (p.earlier ++ take n (drop at l) ∷ []) l (at + n + 1)))
             (line_answer_lem p.earlier (take n (drop at l)) at ∙ ap (answer_by at) line_there)
 
-      pub refused_line : {number : ℕ} → line_read (take n (take (length l - at) (drop at l))) given ≡ Refused number
+      pub refused_line : {number : ℕ} → line_read (take n (take (length l - at) (drop at l))) found ≡ Err number
           → body_answer l ≡ refused_at number at
       refused_line r = next_answer r
 
-      module _ {k : ℕ} {z : ℤ} (r : line_read (take n (take (length l - at) (drop at l))) given ≡ Gives k z) where
+      module _ {k : ℕ} {z : ℤ} (r : line_read (take n (take (length l - at) (drop at l))) found ≡ Ok (k, z)) where
         pub given_listed : k < length sheet_names
         given_listed = gives_listed p.earlier (take n (drop at l)) k z (line_there r)
 
-        pub given_line : Progress l (at + n + 1) (set numbers k z) (set given k true)
+        pub given_line : Progress l (at + n + 1) (set found k (Some z))
         given_line = record {
           earlier = p.earlier ++ take n (drop at l) ∷ [];
           answer_left = sym (next_answer r);
@@ -236,10 +238,5 @@ module _ {l : List ℕ} {at : ℕ} {numbers : List ℤ} {given : List Bool} (p :
               append_assoc p.earlier (take n (drop at l) ∷ []) (lines_in (drop (at + n + 1) l))
               ∙ ap (λ (lines : List (List ℕ)). p.earlier ++ lines) (sym (parts_from LINE_END l at n there h))
               ∙ p.lines_left;
-          given_are =
-              ap (λ (g : List Bool). set g k true) p.given_are
-              ∙ gives_given p.earlier (take n (drop at l)) k z (line_there r);
-          numbers_are =
-              ap (λ (zs : List ℤ). set zs k z) p.numbers_are
-              ∙ gives_numbers p.earlier (take n (drop at l)) k z (line_there r);
+          found_are = ap (λ (f : List (Option ℤ)). set f k (Some z)) p.found_are ∙ gives_found p.earlier (take n (drop at l)) k z (line_there r);
         }

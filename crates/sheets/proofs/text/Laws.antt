@@ -1,41 +1,37 @@
--- Texts from an index on, as the loops walk them.
+-- The first byte of a kind, as `position` finds it, and the same bytes, as `==` and `starts_with` compare them.
 -- Assumes nothing.
-use mathlib.Core.Path.{◌≡◌, ap, ap₂}
-use mathlib.Core.Bool.{true, false}
-use mathlib.Core.List.{List}
-use Prim.Native.Nat.{ℕ, suc, ◌+◌, ◌≤◌, ◌<◌}
-use native.Mathlib.Numerals.{add-one}
-use lib.ListN.{length, get_or, drop, drop_of_length-le}
-use lib.Seq.{drop-cons}
-use borrow.Author.Tests.{eq-eqb, ne_eqb}
+use Rattle.std.proofs.Common.{◌≡◌, refl, ℕ, ◌≤◌, List, [], ◌∷◌, eqb, ltb, length, ap, ◌∙◌, cond, ◌&&◌, take, ap₂, arith}
+use Rattle.std.specs.List.{position, position_or_len, starts_with}
+use Rattle.std.specs.Option.{unwrap_or}
+use Rattle.std.specs.declared.option.Option.TheVariants.{None, Some}
+use Rattle.std.proofs.lemmas.List.Recursion.{is_position_or_len}
+use Rattle.std.proofs.lemmas.Bool.Decides.{nat_tests}
 use Rattle.sheets.specs.Text.{index_of, same_bytes}
+use Rattle.sheets.specs.Laws.Text.{index_le}
+use lib.Pointwise.{pointwise}
 
--- ---- the first byte b
-
-module _ (l : List ℕ) (i : ℕ) (h : i < length l) where
-  pub index_here : (b : ℕ) → get_or l i 0 ≡ b → index_of b (drop i l) ≡ 0
-  unfolding index_of
-  index_here b e = rw (drop-cons l i 0 h, index_of, eq-eqb (get_or l i 0) b e)
-
-  pub index_on : (b : ℕ) → (get_or l i 0 ≡ b → ⊥) → index_of b (drop i l) ≡ suc (index_of b (drop (i + 1) l))
-  unfolding index_of
-  index_on b e = rw (add-one, drop-cons l i 0 h, index_of, ne_eqb (get_or l i 0) b e)
-
-pub index_end : (l : List ℕ) (i : ℕ) → length l ≤ i → (b : ℕ) → index_of b (drop i l) ≡ 0
+index_is : (b : ℕ) (l : List ℕ) → index_of b l ≡ position_or_len (λ x. eqb x b) l
 unfolding index_of
-index_end l i h b = ap (index_of b) (drop_of_length-le l h)
+index_is b l = is_position_or_len (index_of b) (λ x. eqb x b) refl (λ x xs. ap (λ n. cond (eqb x b) 0 n) (omega arith)) l
 
--- ---- the same bytes
+found_by : (n m : ℕ) → n ≤ m → n ≡ unwrap_or (cond (ltb n m) (Some n) None) m
+found_by n m h = grind (arith, nat_tests)
 
-module _ (a b : List ℕ) (i : ℕ) (ha : i < length a) (hb : i < length b) where
-  pub same_on : get_or a i 0 ≡ get_or b i 0 → same_bytes (drop i a) (drop i b) ≡ same_bytes (drop (i + 1) a) (drop (i + 1) b)
-  unfolding same_bytes
-  same_on e = rw (add-one, drop-cons a i 0 ha, drop-cons b i 0 hb, same_bytes, eq-eqb (get_or a i 0) (get_or b i 0) e)
+pub index_position : (b : ℕ) (l : List ℕ) → index_of b l ≡ unwrap_or (position (λ x. eqb x b) l) (length l)
+index_position b l =
+    let e = index_is b l in
+    let h = index_le b l in
+    e ∙ found_by (position_or_len (λ x. eqb x b) l) (length l) (omega arith)
 
-  pub same_off : (get_or a i 0 ≡ get_or b i 0 → ⊥) → same_bytes (drop i a) (drop i b) ≡ false
-  unfolding same_bytes
-  same_off e = rw (drop-cons a i 0 ha, drop-cons b i 0 hb, same_bytes, ne_eqb (get_or a i 0) (get_or b i 0) e)
+flipped : (x y : ℕ) → eqb x y ≡ eqb y x
+flipped x y = grind (arith, nat_tests)
 
-pub same_end : (a b : List ℕ) (i : ℕ) → length a ≤ i → length b ≤ i → same_bytes (drop i a) (drop i b) ≡ true
+pub same_flipped : (a b : List ℕ) → same_bytes a b ≡ pointwise eqb b a
 unfolding same_bytes
-same_end a b i ha hb = ap₂ same_bytes (drop_of_length-le a ha) (drop_of_length-le b hb)
+same_flipped [] [] = refl
+same_flipped [] (y ∷ b) = refl
+same_flipped (x ∷ a) [] = refl
+same_flipped (x ∷ a) (y ∷ b) = ap₂ (λ t u. t && u) (flipped x y) (same_flipped a b)
+
+pub same_starts : (l word : List ℕ) → same_bytes (take (length word) l) word ≡ starts_with eqb l word
+same_starts l word = same_flipped (take (length word) l) word

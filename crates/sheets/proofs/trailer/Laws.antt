@@ -1,5 +1,6 @@
 -- What the last eleven bytes tell of a trailer, and where the sheet begins by it, case by case as the code finds it.
 -- Assumes nothing.
+use Rattle.std.specs.Prelude.{Some, None}
 use mathlib.Core.Path.{◌≡◌}
 use mathlib.Core.Bool.{true, false, cond, ◌&&◌, and-true, and-false}
 use mathlib.Core.List.{List}
@@ -12,19 +13,18 @@ use Rattle.sheets.specs.Text.{LINE_END, bytes_in, same_bytes}
 use Rattle.sheets.specs.Number.{all_digits}
 use Rattle.sheets.specs.Trailer.{TRAILER_BYTES, MOST_BYTES, trailer_place, digits_in, is_trailer, trailer_count, has_trailer, start_of}
 use Rattle.sheets.specs.Laws.Steps.{BEYOND, digits_read, digits_are, digits_are_not, count_read}
-use Rattle.sheets.specs.declared.number.Digits.TheVariants.{Are, AreNot}
 
 -- ---- eleven bytes
 
 module _ (t : List ℕ) where
   -- other letters before the digits
-  pub word_other : same_bytes (take 5 t) (bytes_in "back ") ≡ false → AreNot ≡ count_read t
+  pub word_other : same_bytes (take 5 t) (bytes_in "back ") ≡ false → None ≡ count_read t
   unfolding is_trailer
   word_other e = rw e
 
   module _ (w : same_bytes (take 5 t) (bytes_in "back ") ≡ true) where
     -- no line end behind the digits
-    pub end_other : (get_or t 10 0 ≡ LINE_END → ⊥) → AreNot ≡ count_read t
+    pub end_other : (get_or t 10 0 ≡ LINE_END → ⊥) → None ≡ count_read t
     unfolding is_trailer
     end_other n = rw (w, ne_eqb (get_or t 10 0) LINE_END n, and-false (all_digits (digits_in t)))
 
@@ -42,12 +42,12 @@ module _ (s : List ℕ) where
   too_short h = rw (lt-leb TRAILER_BYTES (length s) h)
 
   -- the last eleven are no trailer
-  pub none_ends : count_read (drop (trailer_place s) s) ≡ AreNot → length s ≡ start_of s
+  pub none_ends : count_read (drop (trailer_place s) s) ≡ None → length s ≡ start_of s
   unfolding start_of has_trailer
   none_ends e =
       rw (digits_are_not (is_trailer (drop (trailer_place s) s)) (digits_in (drop (trailer_place s) s)) e, and-false (leb TRAILER_BYTES (length s)))
 
-  module _ (h : TRAILER_BYTES ≤ length s) (v : ℕ) (e : count_read (drop (trailer_place s) s) ≡ Are v) where
+  module _ (h : TRAILER_BYTES ≤ length s) (v : ℕ) (e : count_read (drop (trailer_place s) s) ≡ Some v) where
     last : (is_trailer (drop (trailer_place s) s) ≡ true) × (v ≡ min (trailer_count s) BEYOND)
     unfolding trailer_count
     last = digits_are (is_trailer (drop (trailer_place s) s)) (digits_in (drop (trailer_place s) s)) v e

@@ -1,12 +1,13 @@
 -- Lines written one after another, and what writing a sheet gives, case by case as the code finds it.
 -- Assumes nothing.
+use Rattle.std.proofs.Common.{Bor}
+use Rattle.std.proofs.lemmas.List.{length-map, get_or-map}
 use mathlib.Core.Path.{◌≡◌, refl, sym, ap, ap₂, ◌∙◌}
 use mathlib.Core.Bool.{Bool, true, false}
 use mathlib.Core.List.{List, [], ◌∷◌, ◌++◌, append_assoc}
 use Prim.Native.Nat.{ℕ, ◌+◌, ◌-◌, ◌≤◌, ◌<◌}
 use native.Mathlib.Nat.{zero-add}
 use native.Mathlib.Numerals.{add-one}
-use native.Mathlib.Decide.{dec_lt}
 use native.Mathlib.Omega.{arith}
 use lib.Dec.{leb}
 use lib.IntN.{ℤ, pos}
@@ -19,15 +20,15 @@ use Rattle.words.specs.declared.refusal.Answer.TheVariants.{Done}
 use Rattle.fields.specs.Table.{no_field}
 use Rattle.fields.specs.Counts.{in_range}
 use Rattle.fields.specs.Subframe2.{COUNTS_2, counts_answer, counts_judged}
-use Rattle.parity.specs.Laws.Parts.{rest_part}
-use Rattle.sheets.specs.Text.{LINE_END, EQUALS, index_of, parts_ended, ended_by}
+use Rattle.sheets.specs.Text.{LINE_END, EQUALS, ended_by}
 use Rattle.sheets.specs.List.{NUMBERS, sheet_names, sheet_fields}
 use Rattle.sheets.specs.Number.{numeral}
 use Rattle.sheets.specs.Trailer.{trailer_text}
 use Rattle.sheets.specs.Sheet.{line_text, line_texts}
 use Rattle.sheets.specs.Write.{sheet_text, numbers_answer, room_answer, write_answer, written_by, put_first, sheet_written, written_bytes, text_written, text_bytes}
 use Rattle.sheets.specs.Laws.Sets.{sets_append, sets_front}
-use Rattle.sheets.specs.Laws.Text.{index_le, parts_none, parts_from}
+use Rattle.sheets.specs.Laws.List.{listed_many}
+use Rattle.sheets.proofs.list.Laws.{names_of}
 use Rattle.sheets.specs.declared.write.Written.{Written}
 
 -- ---- bytes put from the first place on
@@ -55,55 +56,34 @@ line_put l name number at equals end e f =
     ∙ ap (λ (o : List ℕ). set o (at + length line) LINE_END) (sym (sets_append name (EQUALS ∷ number) l at))
     ∙ sym (sets_append line (LINE_END ∷ []) l at)
 
--- ---- the lines from the name at `from` and the number k on
+-- ---- the lines of the names and numbers from position k on
 
-abbrev pub lines_from : List ℕ → List ℤ → ℕ → ℕ → List ℕ
-lines_from names numbers from k = ended_by LINE_END (line_texts (parts_ended EQUALS (drop from names)) (drop k numbers))
+abbrev pub lines_from : List ℤ → ℕ → List ℕ
+lines_from numbers k = ended_by LINE_END (line_texts (drop k sheet_names) (drop k numbers))
 
--- a name is left for each number
-abbrev pub NamesLeft : List ℕ → List ℤ → ℕ → ℕ → Type 0
-NamesLeft names numbers from k = length (drop k numbers) ≡ length (parts_ended EQUALS (drop from names))
+-- the first of them, and the others
+pub line_next : (numbers : List ℤ) (k : ℕ) → k < length numbers → k < NUMBERS
+    → lines_from numbers k ≡ ended_line (get_or sheet_names k []) (get_or numbers k (pos 0)) ++ lines_from numbers (k + 1)
+unfolding line_texts ended_by
+line_next numbers k h m =
+    let name = get_or sheet_names k [] in
+    let z = get_or numbers k (pos 0) in
+    let names_on : drop k sheet_names ≡ name ∷ drop (k + 1) sheet_names = rw add-one (drop-cons sheet_names k [] (omega (arith, listed_many))) in
+    let numbers_on : drop k numbers ≡ z ∷ drop (k + 1) numbers = rw add-one (drop-cons numbers k (pos 0) h) in
+    ap₂ (λ (x : List (List ℕ)) (y : List ℤ). ended_by LINE_END (line_texts x y)) names_on numbers_on
+    ∙ sym (append_assoc (line_text name z) (LINE_END ∷ []) (lines_from numbers (k + 1)))
 
--- what is known at a number whose name ends before `stop`
-pub record LineStep (names : List ℕ) (numbers : List ℤ) (from k stop : ℕ) : Type 0 where
-  pub inside : stop < length names
-  pub left : NamesLeft names numbers (stop + 1) (k + 1)
-  pub text : lines_from names numbers from k
-      ≡ ended_line (take (stop - from) (drop from names)) (get_or numbers k (pos 0)) ++ lines_from names numbers (stop + 1) (k + 1)
-
-module _ (names : List ℕ) (numbers : List ℤ) (from k : ℕ) (more : k < length numbers) (many : NamesLeft names numbers from k) where
-  abbrev rest : List ℕ
-  rest = drop from names
-
-  numbers_on : drop k numbers ≡ get_or numbers k (pos 0) ∷ drop (k + 1) numbers
-  numbers_on = rw add-one (drop-cons numbers k (pos 0) more)
-
-  found : index_of EQUALS rest < length rest
-  found = go (dec_lt (index_of EQUALS rest) (length rest))
-    where
-      go : Dec (index_of EQUALS rest < length rest) → index_of EQUALS rest < length rest
-      go (yes h) = h
-      go (no h) =
-          let none : index_of EQUALS rest ≡ length rest = omega (arith, index_le EQUALS rest) in
-          absurd (omega (arith, ap length (parts_none EQUALS rest none), ap length numbers_on))
-
-  pub line_step : (i : ℕ) → i ≡ index_of EQUALS (take (length names - from) rest) → LineStep names numbers from k (from + i)
-  unfolding line_texts ended_by
-  line_step i e =
-      let there : i ≡ index_of EQUALS rest = e ∙ ap (index_of EQUALS) (rest_part from names) in
-      let within : from + i < length names = omega (arith, found, length-drop from names) in
-      let back : i ≡ from + i - from = omega arith in
-      let parts : parts_ended EQUALS rest ≡ take (from + i - from) rest ∷ parts_ended EQUALS (drop (from + i + 1) names) =
-      parts_from EQUALS names from i there within
-      ∙ ap (λ (n : ℕ). take n rest ∷ parts_ended EQUALS (drop (from + i + 1) names)) back in
-      record {
-        inside = within;
-        left = omega (arith, ap length parts, ap length numbers_on);
-        text =
-            ap₂ (λ (x : List (List ℕ)) (y : List ℤ). ended_by LINE_END (line_texts x y)) parts numbers_on
-            ∙ sym (append_assoc (line_text (take (from + i - from) rest) (get_or numbers k (pos 0))) (LINE_END ∷ [])
-            (lines_from names numbers (from + i + 1) (k + 1)));
-      }
+-- the same by a name and a number that are lent
+pub line_here : (lent : List (Bor (List ℕ))) (numbers : List ℤ) (k : ℕ) (name : Bor (List ℕ)) (z : ℤ) → names_of lent ≡ sheet_names
+    → k < length lent → k < length numbers → ((d : Bor (List ℕ)) → name ≡ get_or lent k d) → ((d : ℤ) → z ≡ get_or numbers k d)
+    → lines_from numbers k ≡ ended_line name.now z ++ lines_from numbers (k + 1)
+line_here lent numbers k name z e h m here there =
+    let now = λ (x : Bor (List ℕ)). x.now in
+    let many = sym (length-map lent now) ∙ ap length e ∙ listed_many in
+    let listed : get_or sheet_names k [] ≡ name.now =
+    ap (λ (names : List (List ℕ)). get_or names k []) (sym e) ∙ get_or-map now lent k name [] h ∙ ap now (sym (here name)) in
+    line_next numbers k m (omega arith)
+    ∙ ap₂ (λ (n : List ℕ) (x : ℤ). ended_line n x ++ lines_from numbers (k + 1)) listed (sym (there (pos 0)))
 
 -- no number is left
 no_lines : (names : List (List ℕ)) → ended_by LINE_END (line_texts names []) ≡ []
@@ -111,10 +91,9 @@ unfolding line_texts ended_by
 no_lines [] = refl
 no_lines (name ∷ names) = refl
 
-pub lines_done : (names : List ℕ) (numbers : List ℤ) (from k : ℕ) → length numbers ≤ k → lines_from names numbers from k ≡ []
-lines_done names numbers from k h =
-    ap (λ (zs : List ℤ). ended_by LINE_END (line_texts (parts_ended EQUALS (drop from names)) zs)) (drop_of_length-le numbers h)
-    ∙ no_lines (parts_ended EQUALS (drop from names))
+pub lines_done : (numbers : List ℤ) (k : ℕ) → length numbers ≤ k → lines_from numbers k ≡ []
+lines_done numbers k h =
+    ap (λ (zs : List ℤ). ended_by LINE_END (line_texts (drop k sheet_names) zs)) (drop_of_length-le numbers h) ∙ no_lines (drop k sheet_names)
 
 -- the lines, and the trailer behind them
 pub sheet_put : (zs : List ℤ) (out : List ℕ)

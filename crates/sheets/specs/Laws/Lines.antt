@@ -1,12 +1,12 @@
 -- Which names lines give, and which numbers; one line more; the first name that is missing.
 -- Assumes nothing.
-use Rattle.std.specs.Prelude.{◌≡◌, Bool, ◌||◌, ℕ, zero, suc, ◌+◌, ◌≤◌, ◌<◌, ℤ, pos, length, get_or, drop, set}
+use Rattle.std.specs.Prelude.{◌≡◌, Option, Some, None, is_some, is_none, unwrap_or, Bool, not, ◌||◌, ℕ, zero, suc, ◌+◌, ◌≤◌, ◌<◌, ℤ, pos, length, get_or, set}
 use Rattle.std.proofs.Math.Path.{refl, sym, ap}
-use Rattle.std.proofs.Common.{ap₂, ◌∙◌, add-one, arith, drop_of_length-le}
+use Rattle.std.proofs.Common.{ap₂, ◌∙◌, arith}
 use Rattle.std.proofs.Math.Bool.{true, false, cond, or_assoc, or-true, or-false}
 use mathlib.Core.List.{List, [], ◌∷◌, ◌++◌, map}
 use Rattle.std.proofs.Math.ListN.{length-map}
-use Rattle.std.proofs.Math.Seq.{drop-cons}
+use Rattle.std.specs.List.{position_or_len}
 use Rattle.sheets.specs.Text.{same_bytes}
 use Rattle.sheets.specs.List.{sheet_names, position_in}
 use Rattle.sheets.specs.Number.{value_in}
@@ -146,33 +146,6 @@ module _ (lines : List (List ℕ)) where
     other_names : (i : ℕ) → i < length sheet_names → (i ≡ position → ⊥) → get_or sheet_names i [] ≡ name_in line → ⊥
     other_names i below other same = other (sym (name_position i below) ∙ ap (λ (name : List ℕ). position_in name sheet_names) same)
 
-    pub given_set : set (given_in lines) position true ≡ given_in (lines ++ line ∷ [])
-    unfolding given_in
-    given_set =
-        map_set
-        (λ (name : List ℕ). is_given name lines)
-        (λ (name : List ℕ). is_given name (lines ++ line ∷ []))
-        sheet_names
-        position
-        []
-        true
-        (sym (given_by (get_or sheet_names position []) lines line its_name))
-        (λ i below other. sym (given_beside (get_or sheet_names i []) lines line (other_names i below other)))
-
-    pub numbers_set : is_given (name_in line) lines ≡ false
-        → set (numbers_in lines) position (value_in (behind_equals line)) ≡ numbers_in (lines ++ line ∷ [])
-    unfolding numbers_in
-    numbers_set new =
-        map_set
-        (λ (name : List ℕ). number_given name lines)
-        (λ (name : List ℕ). number_given name (lines ++ line ∷ []))
-        sheet_names
-        position
-        []
-        (value_in (behind_equals line))
-        (sym (number_by_lem (get_or sheet_names position []) lines line its_name (ap (λ (name : List ℕ). is_given name lines) its_name ∙ new)))
-        (λ i below other. sym (number_beside (get_or sheet_names i []) lines line (other_names i below other)))
-
 -- ---- the first that is missing
 
 pub missing_le : (given : List Bool) → first_missing given ≤ length given
@@ -181,16 +154,83 @@ missing_le [] = omega arith
 missing_le (true ∷ given) = omega (arith, missing_le given)
 missing_le (false ∷ given) = omega arith
 
--- one step in the list, as a loop takes it
-module _ (given : List Bool) (k : ℕ) where
-  pub missing_here : k < length given → get_or given k false ≡ false → first_missing (drop k given) ≡ 0
-  unfolding first_missing
-  missing_here h e = rw (drop-cons given k false h, first_missing, e)
+-- ---- for each name of the list its number, where it is given
 
-  pub missing_on : k < length given → get_or given k false ≡ true → first_missing (drop k given) ≡ suc (first_missing (drop (k + 1) given))
-  unfolding first_missing
-  missing_on h e = rw (add-one, drop-cons given k false h, first_missing, e)
+abbrev pub number_found : List ℕ → List (List ℕ) → Option ℤ
+number_found name lines = cond (is_given name lines) (Some (number_given name lines)) None
 
-  pub missing_end : length given ≤ k → first_missing (drop k given) ≡ 0
+unfoldable pub found_in : List (List ℕ) → List (Option ℤ)
+found_in lines = map (λ (name : List ℕ). number_found name lines) sheet_names
+
+some_test : (t : Bool) (z : ℤ) → is_some (cond t (Some z) None) ≡ t
+some_test true z = refl
+some_test false z = refl
+
+missing_step : (t : Bool) (z : ℤ) (n m : ℕ) → n ≡ m → cond (not (is_none (cond t (Some z) None))) (1 + n) 0 ≡ cond t (suc m) 0
+missing_step true z n m e = omega (arith, e)
+missing_step false z n m e = refl
+
+module _ (lines : List (List ℕ)) where
+  pub found_many : length (found_in lines) ≡ length sheet_names
+  unfolding found_in
+  found_many = length-map sheet_names (λ (name : List ℕ). number_found name lines)
+
+  -- whether a name has one, the first that has none, and the numbers, are as for the names and the numbers apart
+  pub found_at : (k : ℕ) → k < length sheet_names → is_some (get_or (found_in lines) k None) ≡ is_given (get_or sheet_names k []) lines
+  unfolding found_in
+  found_at k h =
+      let name = get_or sheet_names k [] in
+      ap is_some (map_at (λ (name : List ℕ). number_found name lines) sheet_names k [] None h)
+      ∙ some_test (is_given name lines) (number_given name lines)
+
+  missing_by_names : (names : List (List ℕ))
+      → position_or_len is_none (map (λ (name : List ℕ). number_found name lines) names)
+      ≡ first_missing (map (λ (name : List ℕ). is_given name lines) names)
   unfolding first_missing
-  missing_end h = ap first_missing (drop_of_length-le given h)
+  missing_by_names [] = refl
+  missing_by_names (name ∷ names) =
+      missing_step (is_given name lines) (number_given name lines)
+      (position_or_len is_none (map (λ (name : List ℕ). number_found name lines) names))
+      (first_missing (map (λ (name : List ℕ). is_given name lines) names))
+      (missing_by_names names)
+
+  pub missing_found : position_or_len is_none (found_in lines) ≡ first_missing (given_in lines)
+  unfolding found_in given_in
+  missing_found = missing_by_names sheet_names
+
+  number_or : (name : List ℕ) (t : Bool) → is_given name lines ≡ t
+      → unwrap_or (cond t (Some (number_given name lines)) None) (pos 0) ≡ number_given name lines
+  number_or name true e = refl
+  number_or name false e = sym (number_none name lines e)
+
+  numbers_by_names : (names : List (List ℕ))
+      → map (λ (x : Option ℤ). unwrap_or x (pos 0)) (map (λ (name : List ℕ). number_found name lines) names)
+      ≡ map (λ (name : List ℕ). number_given name lines) names
+  numbers_by_names [] = refl
+  numbers_by_names (name ∷ names) = ap₂ (◌∷◌) (number_or name (is_given name lines) refl) (numbers_by_names names)
+
+  pub numbers_or : map (λ (x : Option ℤ). unwrap_or x (pos 0)) (found_in lines) ≡ numbers_in lines
+  unfolding found_in numbers_in
+  numbers_or = numbers_by_names sheet_names
+
+  -- a line more, of a name of the list that is not given yet
+  pub found_set : (line : List ℕ) → position_in (name_in line) sheet_names < length sheet_names → is_given (name_in line) lines ≡ false
+      → set (found_in lines) (position_in (name_in line) sheet_names) (Some (value_in (behind_equals line))) ≡ found_in (lines ++ line ∷ [])
+  unfolding found_in
+  found_set line listed new =
+      let place = position_in (name_in line) sheet_names in
+      let its = its_name lines line listed in
+      map_set
+      (λ (name : List ℕ). number_found name lines)
+      (λ (name : List ℕ). number_found name (lines ++ line ∷ []))
+      sheet_names
+      place
+      []
+      (Some (value_in (behind_equals line)))
+      (sym (ap₂ (λ (t : Bool) (z : ℤ). cond t (Some z) None)
+      (given_by (get_or sheet_names place []) lines line its)
+      (number_by_lem (get_or sheet_names place []) lines line its (ap (λ (name : List ℕ). is_given name lines) its ∙ new))))
+      (λ i below other.
+      sym (ap₂ (λ (t : Bool) (z : ℤ). cond t (Some z) None)
+      (given_beside (get_or sheet_names i []) lines line (other_names lines line listed i below other))
+      (number_beside (get_or sheet_names i []) lines line (other_names lines line listed i below other))))

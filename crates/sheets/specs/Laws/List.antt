@@ -1,4 +1,4 @@
--- The list of a sheet: its names as one text, what is true of every name and every field of it, and a name's position.
+-- The list of a sheet: what is true of every name and every field of it, and a name's position.
 -- Assumes nothing.
 use Rattle.std.specs.Prelude.{◌≡◌, refl, Bool, true, ◌&&◌, List, [], ◌∷◌, ℕ, ◌+◌, ◌<◌, eqb, ltb, length, get_or}
 use Rattle.std.proofs.Common.{sym, ◌∙◌, arith, eqb-true, ltb-true}
@@ -8,7 +8,7 @@ use Rattle.std.proofs.lemmas.List.{length-map}
 use Rattle.std.proofs.Math.ListN.{get_or-eq_default}
 use Rattle.words.specs.Laws.Tests.{all_below, below_at}
 use Rattle.fields.specs.Table.{NamedField, subframe2_rows, no_field}
-use Rattle.sheets.specs.Text.{bytes_in, LINE_END, EQUALS, index_of, same_bytes, parts_ended, ended_by}
+use Rattle.sheets.specs.Text.{bytes_in, LINE_END, EQUALS, index_of, same_bytes}
 use Rattle.sheets.specs.List.{sheet_rows, sheet_names, sheet_fields, NUMBERS, position_in}
 use Rattle.sheets.specs.Laws.Steps.{BEYOND}
 use Rattle.sheets.specs.Laws.Text.{same_is, count_at}
@@ -18,14 +18,6 @@ use Rattle.sheets.specs.Laws.Text.{same_is, count_at}
 pub listed_many : length sheet_names ≡ NUMBERS
 unfolding sheet_names sheet_rows subframe2_rows
 listed_many = refl
-
--- the names as one text, each with its `=` behind it
-unfoldable pub names_text : List ℕ
-names_text = ended_by EQUALS sheet_names
-
-pub names_text_lem : parts_ended EQUALS names_text ≡ sheet_names
-unfolding names_text sheet_names sheet_rows subframe2_rows ended_by parts_ended
-names_text_lem = refl
 
 -- each stands at the position where it is found
 is_found : ℕ → Bool

@@ -1,6 +1,7 @@
 -- What the functions of `sheets` below the public ones give.
 -- Assumes nothing.
-use Rattle.std.specs.Prelude.{◌≡◌, refl, Bool, true, false, cond, not, ◌&&◌, List, ℕ, ◌+◌, min, eqb, ltb, ℤ, pos, neg_ℤ, length, get_or}
+use Rattle.std.specs.Prelude.{◌≡◌, refl, Option, Some, None, is_some, is_none, unwrap_or, map, Result, Ok, Err, Bool, true, false, cond, not, ◌&&◌, List, ℕ, ◌+◌, min, eqb, ltb, ℤ, pos, neg_ℤ, length, get_or}
+use Rattle.std.specs.List.{position_or_len}
 use Rattle.words.specs.Refusal.{LINE, NAME, NAME_AGAIN, NUMBER, NAME_MISSING}
 use Rattle.fields.specs.Table.{no_field}
 use Rattle.fields.specs.Counts.{in_range}
@@ -8,15 +9,19 @@ use Rattle.fields.specs.declared.table.Field.{Field}
 use Rattle.sheets.specs.List.{sheet_names, sheet_fields, position_in}
 use Rattle.sheets.specs.Number.{all_digits, decimal_in, is_plain, is_number_of, value_in}
 use Rattle.sheets.specs.Trailer.{is_trailer, digits_in}
-use Rattle.sheets.specs.Lines.{has_equals, name_in, behind_equals, first_missing}
+use Rattle.sheets.specs.Lines.{has_equals, name_in, behind_equals, is_listed}
 use Rattle.sheets.specs.Sheet.{no_sheet, sheet_is}
-use Rattle.sheets.specs.declared.number.Digits.{Digits}
-use Rattle.sheets.specs.declared.number.Digits.TheVariants.{Are, AreNot}
-use Rattle.sheets.specs.declared.number.Number.{Number}
-use Rattle.sheets.specs.declared.number.Number.TheVariants.{Is, IsNot}
-use Rattle.sheets.specs.declared.lines.Line.{Line}
-use Rattle.sheets.specs.declared.lines.Line.TheVariants.{Gives, Refused}
 use Rattle.sheets.specs.declared.sheet.Sheet.{Sheet}
+
+-- ---- a place where the test holds, and none where it doesn't
+
+pub some_is : (test : Bool) (n k : ℕ) → cond test (Some n) None ≡ Some k → (test ≡ true) × (n ≡ k)
+some_is true n k e = (refl, cc)
+some_is false n k e = (cc, cc)
+
+pub none_is : (test : Bool) (n : ℕ) → cond test (Some n) None ≡ None → test ≡ false
+none_is true n e = cc
+none_is false n e = refl
 
 -- ---- numbers
 
@@ -25,66 +30,72 @@ abbrev pub BEYOND : ℕ
 BEYOND = 1099511627776
 
 -- the number of digits, at most BEYOND
-abbrev pub digits_by : Bool → List ℕ → Digits
-digits_by right l = cond right (Are (min (decimal_in l) BEYOND)) AreNot
+abbrev pub digits_by : Bool → List ℕ → Option ℕ
+digits_by right l = cond right (Some (min (decimal_in l) BEYOND)) None
 
-abbrev pub digits_read : List ℕ → Digits
+abbrev pub digits_read : List ℕ → Option ℕ
 digits_read l = digits_by (all_digits l) l
 
-abbrev pub plain_read : List ℕ → Digits
+abbrev pub plain_read : List ℕ → Option ℕ
 plain_read l = digits_by (is_plain l) l
 
 -- which it was
-pub digits_are : (right : Bool) (l : List ℕ) (v : ℕ) → digits_by right l ≡ Are v → (right ≡ true) × (v ≡ min (decimal_in l) BEYOND)
+pub digits_are : (right : Bool) (l : List ℕ) (v : ℕ) → digits_by right l ≡ Some v → (right ≡ true) × (v ≡ min (decimal_in l) BEYOND)
 digits_are true l v e = (refl, cc)
 digits_are false l v e = (cc, cc)
 
-pub digits_are_not : (right : Bool) (l : List ℕ) → digits_by right l ≡ AreNot → right ≡ false
+pub digits_are_not : (right : Bool) (l : List ℕ) → digits_by right l ≡ None → right ≡ false
 digits_are_not true l e = cc
 digits_are_not false l e = refl
 
 -- a number where the test holds and it is in the field's range
-abbrev pub number_by : Bool → Field → ℤ → Number
-number_by right f z = cond (right && in_range f z) (Is z) IsNot
+abbrev pub number_by : Bool → Field → ℤ → Option ℤ
+number_by right f z = cond (right && in_range f z) (Some z) None
 
 -- the number behind a `-`
-abbrev pub negative_read : Field → List ℕ → Number
+abbrev pub negative_read : Field → List ℕ → Option ℤ
 negative_read f l = number_by (is_plain l && not (eqb (decimal_in l) 0)) f (neg_ℤ (pos (decimal_in l)))
 
 -- the number without a sign
-abbrev pub positive_read : Field → List ℕ → Number
+abbrev pub positive_read : Field → List ℕ → Option ℤ
 positive_read f l = number_by (is_plain l) f (pos (decimal_in l))
 
-abbrev pub number_read : Field → List ℕ → Number
-number_read f l = cond (is_number_of f l) (Is (value_in l)) IsNot
+abbrev pub number_read : Field → List ℕ → Option ℤ
+number_read f l = cond (is_number_of f l) (Some (value_in l)) None
 
 -- ---- the trailer
 
 -- what eleven bytes count, where they are a trailer
-abbrev pub count_read : List ℕ → Digits
+abbrev pub count_read : List ℕ → Option ℕ
 count_read trailer = digits_by (is_trailer trailer) (digits_in trailer)
 
 -- ---- a line
 
-abbrev pub line_by : ℕ → Number → Line
-line_by k (Is z) = Gives k z
-line_by k IsNot = Refused NUMBER
+-- a name's position, where it is on the list
+abbrev pub listed_at : List ℕ → Option ℕ
+listed_at name = cond (is_listed name) (Some (position_in name sheet_names)) None
 
--- a line of the name at position k, where these names are given
-unfoldable pub named_line : ℕ → List ℕ → List Bool → Line
-named_line k text given =
+abbrev pub line_by : ℕ → Option ℤ → Result (ℕ × ℤ) ℕ
+line_by k (Some z) = Ok (k, z)
+line_by k None = Err NUMBER
+
+-- a line of the name at position k, where these numbers are found
+unfoldable pub named_line : ℕ → List ℕ → List (Option ℤ) → Result (ℕ × ℤ) ℕ
+named_line k text found =
     cond (ltb k (length sheet_names))
-    (cond (get_or given k false) (Refused NAME_AGAIN) (line_by k (number_read (get_or sheet_fields k no_field) text)))
-    (Refused NAME)
+    (cond (is_some (get_or found k None)) (Err NAME_AGAIN) (line_by k (number_read (get_or sheet_fields k no_field) text)))
+    (Err NAME)
 
 -- a line without its end
-unfoldable pub line_read : List ℕ → List Bool → Line
-line_read line given =
-    cond (has_equals line) (named_line (position_in (name_in line) sheet_names) (behind_equals line) given) (Refused LINE)
+unfoldable pub line_read : List ℕ → List (Option ℤ) → Result (ℕ × ℤ) ℕ
+line_read line found =
+    cond (has_equals line) (named_line (position_in (name_in line) sheet_names) (behind_equals line) found) (Err LINE)
 
 -- ---- the sheet
 
 -- after the last line
-unfoldable pub finished_sheet : List ℤ → List Bool → ℕ → Sheet
-finished_sheet zs given before =
-    cond (ltb (first_missing given) (length sheet_names)) (no_sheet NAME_MISSING (first_missing given + 1)) (sheet_is zs before)
+unfoldable pub finished_sheet : List (Option ℤ) → ℕ → Sheet
+finished_sheet found before =
+    cond (ltb (position_or_len is_none found) (length found))
+    (no_sheet NAME_MISSING (position_or_len is_none found + 1))
+    (sheet_is (map (λ (number : Option ℤ). unwrap_or number (pos 0)) found) before)

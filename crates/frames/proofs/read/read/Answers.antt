@@ -3,9 +3,9 @@ use mathlib.Core.Path.{sym, ◌∙◌}
 use Rattle.frames.proofs.read.Laws.{time_lent, frame_done}
 use Rattle.frames.proofs.read.read.Goals as goal
 
-pub frame_in-requires : goal.frame_in-requires
-frame_in-requires c =
+pub frame_of-requires : goal.frame_of-requires
+frame_of-requires c =
     let lent = time_lent c.args.frame.now _ (sym c.read_time.ensures ∙ c.in_ok-time.was) in (lent.0, lent.1)
 
 pub returns : goal.returns
-returns c = c.frame_in.ensures ∙ frame_done c.args.frame.now _ (sym c.read_time.ensures ∙ c.in_ok-time.was)
+returns c = c.frame_of.ensures ∙ frame_done c.args.frame.now _ (sym c.read_time.ensures ∙ c.in_ok-time.was)

@@ -1,16 +1,17 @@
--- `programs::output::refusal_output` meets its contract. Assumes nothing.
-use native.Mathlib.Omega.{arith}
+-- `programs::output::refusal_output` meets its contract: numbers of 64 bits have at most 20 digits, so all of it has room. Assumes nothing.
+use Rattle.std.proofs.Common.{arith}
 use Rattle.programs.specs.Output.{refusal_text}
 use Rattle.programs.specs.Laws.Output.{output_is}
-use Rattle.programs.proofs.output.Laws.{refusal_short}
+use Rattle.programs.proofs.output.Laws.{refusal_added}
 use Rattle.programs.proofs.output.refusal_output.Goals as goal
 
 pub returns : goal.returns
 returns c =
-    let put = c.put_refusal-size in
     let number = c.args.number in
     let place = c.args.place in
-    let short = refusal_short number place (omega (arith, c.ranges.number.fits)) c.ranges.place.fits in (
-      output_is (refusal_text number place) put.result put.new.out (omega arith) put.ensures.0 put.ensures.1,
-      omega (arith, put.ensures.0),
-    )
+    let fresh = c.new-output in
+    let added = refusal_added number place fresh.result c.put.new.self c.put_number.new.self c.put-2.new.self c.put_number-2.new.self
+    c.put-3.new.self (c.put.ensures.size, c.put.ensures.bytes) (c.put_number.ensures.size, c.put_number.ensures.bytes)
+    (c.put-2.ensures.size, c.put-2.ensures.bytes) (c.put_number-2.ensures.size, c.put_number-2.ensures.bytes)
+    (c.put-3.ensures.size, c.put-3.ensures.bytes) in
+    (output_is (refusal_text number place) fresh.result c.put-3.new.self fresh.ensures.size fresh.ensures.bytes added (omega arith), omega arith)

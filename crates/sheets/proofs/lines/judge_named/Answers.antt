@@ -1,54 +1,52 @@
 -- `sheets::lines::judge_named` meets its contract. Assumes nothing.
-use mir.Syntax.{w64}
-use borrow.Author.Rules.{rules}
-use borrow.Author.Tests.{lt-ltb, le-ltb}
-use mathlib.Core.Path.{◌≡◌, sym, ◌∙◌, ap, subst}
-use native.Mathlib.Omega.{arith}
-use Prim.Native.Nat.{◌+◌, ◌<◌}
-use lib.ListN.{length}
+use Rattle.std.proofs.Common.{◌≡◌, ℕ, ℤ, ◌+◌, ◌<◌, false, is_some, List, Option, Some, None, Ok, Err, length, get_or, sym, ap, subst, ◌∙◌, arith, rules, lt-ltb}
+use Rattle.std.proofs.lemmas.Grind.{common_steps}
 use mir.Facts.{to_z-of_z}
+use Rattle.std.specs.Option.{ok_or}
+use mir.Syntax.{w64}
+use Rattle.words.specs.Refusal.{NUMBER}
+use Rattle.fields.specs.Table.{no_field}
 use Rattle.fields.specs.declared.table.Field.{Field}
-use Rattle.sheets.specs.List.{sheet_names}
+use Rattle.sheets.specs.List.{NUMBERS, sheet_names, sheet_fields}
 use Rattle.sheets.specs.Laws.Steps.{BEYOND, named_line, number_read, line_by}
 use Rattle.sheets.specs.Laws.List.{listed_many, fields_below}
-use Rattle.sheets.specs.declared.lines.Line.TheVariants.{Gives}
 use Rattle.sheets.proofs.lines.judge_named.Goals as goal
 
-pub returns-then-k-ge-LISTED : goal.returns-then-k-ge-LISTED
+pub returns-then-again : goal.returns-then-again
 unfolding named_line
-returns-then-k-ge-LISTED c = rw (le-ltb c.args.k (length sheet_names) (omega (arith, listed_many)))
-
-pub returns-then-given-k : goal.returns-then-given-k
-unfolding named_line
-returns-then-given-k c = rw (lt-ltb c.args.k (length sheet_names) (omega (arith, listed_many)), c.if-given-k.true)
+returns-then-again c = rw (lt-ltb c.args.k (length sheet_names) (omega (arith, listed_many)), sym c.is_some-again.ensures ∙ c.if-again.true)
 
 pub read_number-requires : goal.read_number-requires
 read_number-requires c = subst (λ (f : Field). f.most + 1 < BEYOND) (sym c.listed_field.ensures) (fields_below c.args.k)
 
--- the name is on the list and not yet given: what its number says
-new_name : (c : goal.In-Is)
-    → let a = c.args in named_line a.k a.text.now a.given ≡ line_by a.k c.read_number.result
+-- where the name is not yet given, its number decides
+new_name : (k : ℕ) (text : List ℕ) (found : List (Option ℤ)) (f : Field) (r : Option ℤ) → k < NUMBERS → is_some (get_or found k None) ≡ false
+    → f ≡ get_or sheet_fields k no_field → r ≡ number_read f text → line_by k r ≡ named_line k text found
 unfolding named_line
-new_name c =
-    let a = c.args in
-    rw (lt-ltb a.k (length sheet_names) (omega (arith, listed_many)), c.if-given-k.false)
-    (ap (line_by a.k) (sym (c.read_number.ensures ∙ ap (λ (f : Field). number_read f a.text.now) c.listed_field.ensures)))
+new_name k text found f r h new e i =
+    rw (lt-ltb k (length sheet_names) (omega (arith, listed_many)), new) (ap (line_by k) (i ∙ ap (λ (x : Field). number_read x text) e))
 
-pub returns-in-Is : goal.returns-in-Is
-returns-in-Is c =
-    let a = c.args in
-    ap (Gives a.k) (to_z-of_z {w = w64} (search rules)) ∙ sym (new_name c ∙ ap (line_by a.k) c.in-Is.is)
+says : (k : ℕ) (r : Option ℤ) (z : ℤ) → ok_or r NUMBER ≡ Ok z → Ok (k, z) ≡ line_by k r
+says k None z e = cc
+says k (Some y) z e = let f : y ≡ z = cc in cc
 
--- the name is on the list and not yet given: what its number says
-new_name_at2 : (c : goal.In-IsNot)
-    → let a = c.args in named_line a.k a.text.now a.given ≡ line_by a.k c.read_number.result
-unfolding named_line
-new_name_at2 c =
-    let a = c.args in
-    rw (lt-ltb a.k (length sheet_names) (omega (arith, listed_many)), c.if-given-k.false)
-    (ap (line_by a.k) (sym (c.read_number.ensures ∙ ap (λ (f : Field). number_read f a.text.now) c.listed_field.ensures)))
+says_none : (k n : ℕ) (r : Option ℤ) → ok_or r NUMBER ≡ Err n → Err n ≡ line_by k r
+says_none k n None e = let f : n ≡ NUMBER = cc in cc
+says_none k n (Some y) e = cc
 
-pub returns-in-IsNot : goal.returns-in-IsNot
-returns-in-IsNot c =
+pub returns-in_err-number : goal.returns-in_err-number
+returns-in_err-number c =
     let a = c.args in
-    sym (new_name_at2 c ∙ ap (line_by a.k) c.in-IsNot.is)
+    let n = c.in_err-number.field-0.0 in
+    let e : c.from_residual.result ≡ Err n = grind (arith, common_steps) in
+    e
+    ∙ says_none a.k n c.read_number.result (sym c.ok_or.ensures.value ∙ c.in_err-number.was)
+    ∙ new_name a.k a.text.now a.found.now c.listed_field.result c.read_number.result c.requires (sym c.is_some-again.ensures ∙ c.if-again.false) c.listed_field.ensures c.read_number.ensures
+
+pub returns : goal.returns
+returns c =
+    let a = c.args in
+    let z = c.in_ok-number.number in
+    ap (λ (x : ℤ). Ok (a.k, x)) (to_z-of_z {w = w64} (search rules))
+    ∙ says a.k c.read_number.result z (sym c.ok_or.ensures.value ∙ c.in_ok-number.was)
+    ∙ new_name a.k a.text.now a.found.now c.listed_field.result c.read_number.result c.requires (sym c.is_some-again.ensures ∙ c.if-again.false) c.listed_field.ensures c.read_number.ensures

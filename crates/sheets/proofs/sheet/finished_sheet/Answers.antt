@@ -1,27 +1,23 @@
 -- `sheets::sheet::finished_sheet` meets its contract. Assumes nothing.
-use borrow.Author.Tests.{lt-ltb, le-ltb}
-use mathlib.Core.Path.{ap, ◌∙◌}
-use native.Mathlib.Omega.{arith}
-use Prim.Native.Nat.{ℕ, ◌+◌}
-use lib.ListN.{length}
+use Rattle.std.proofs.Common.{ℕ, ℤ, ◌+◌, List, is_none, ltb, length, sym, ap, ◌∙◌}
+use Rattle.std.specs.List.{position_or_len}
 use Rattle.words.specs.Refusal.{NAME_MISSING}
-use Rattle.sheets.specs.List.{sheet_names}
-use Rattle.sheets.specs.Lines.{first_missing}
-use Rattle.sheets.specs.Sheet.{no_sheet}
-use Rattle.sheets.specs.Laws.Steps.{finished_sheet}
-use Rattle.sheets.specs.Laws.List.{listed_many}
+use Rattle.sheets.specs.Sheet.{no_sheet, sheet_is}
+use Rattle.sheets.specs.Laws.Steps.{some_is, none_is, finished_sheet}
 use Rattle.sheets.proofs.sheet.finished_sheet.Goals as goal
 
-pub returns-then-missing-lt-LISTED : goal.returns-then-missing-lt-LISTED
+pub returns-in-Some : goal.returns-in-Some
 unfolding finished_sheet
-returns-then-missing-lt-LISTED c =
-    let given = c.args.given in
-    let e = c.first_missing-missing.ensures in
-    rw (lt-ltb (first_missing given) (length sheet_names) (omega (arith, listed_many, e)))
-    (c.no_sheet.ensures ∙ ap (λ (k : ℕ). no_sheet NAME_MISSING (k + 1)) e)
+returns-in-Some c =
+    let found = c.args.found.now in
+    let place = position_or_len is_none found in
+    let some = some_is (ltb place (length found)) place c.in-Some.missing (sym c.first_missing.ensures ∙ c.in-Some.is) in
+    c.no_sheet.ensures ∙ ap (λ (k : ℕ). no_sheet NAME_MISSING (k + 1)) (sym some.1) ∙ rw some.0
 
 pub returns : goal.returns
 unfolding finished_sheet
 returns c =
-    let given = c.args.given in
-    rw (le-ltb (first_missing given) (length sheet_names) (omega (arith, listed_many, c.first_missing-missing.ensures)))
+    let found = c.args.found.now in
+    let place = position_or_len is_none found in
+    rw (none_is (ltb place (length found)) place (sym c.first_missing.ensures ∙ c.in_default.is))
+    (ap (λ (zs : List ℤ). sheet_is zs c.args.before) c.numbers_found-numbers.ensures)

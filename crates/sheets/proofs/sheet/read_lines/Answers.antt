@@ -33,50 +33,47 @@ pub slice_bounds-judge_line-end : goal.slice_bounds-judge_line-end
 slice_bounds-judge_line-end c = simp (length-take, length-drop) (omega (arith, ends c))
 
 -- the line's end is within the bytes
-ends_at2 : (c : goal.In-Gives)
+ends_at2 : (c : goal.In-Ok)
     → c.loop-at.at + c.find-end.result < length c.args.lines.now
 ends_at2 c = omega (arith, within c.loop-at.invariant c.find-end.ensures (omega arith))
 
--- only a name of the list is given
-listed : (c : goal.In-Gives) → c.in-Gives.k < NUMBERS
+-- only a name of the list is found
+listed : (c : goal.In-Ok) → c.in-Ok.k < NUMBERS
 listed c =
-    let e = sym c.judge_line.ensures ∙ c.in-Gives.is in
+    let e = sym c.judge_line.ensures ∙ c.in-Ok.is in
     omega (arith, listed_many, given_listed c.loop-at.invariant c.find-end.ensures (ends_at2 c) e)
 
-pub offset_bounds-numbers-k : goal.offset_bounds-numbers-k
-offset_bounds-numbers-k c = omega (arith, listed c)
+pub offset_bounds-found-k : goal.offset_bounds-found-k
+offset_bounds-found-k c = omega (arith, listed c)
 
-pub bounds-numbers-k : goal.bounds-numbers-k
-bounds-numbers-k c = listed c
-
-pub bounds-given-k : goal.bounds-given-k
-bounds-given-k c = listed c
+pub bounds-found-k : goal.bounds-found-k
+bounds-found-k c = listed c
 
 pub overflow_add-at : goal.overflow_add-at
 overflow_add-at c = omega (arith, ends_at2 c)
 
-pub overflow_add-at-in-Gives : goal.overflow_add-at-in-Gives
-overflow_add-at-in-Gives c = omega (arith, ends_at2 c)
+pub overflow_add-at-in-Ok : goal.overflow_add-at-in-Ok
+overflow_add-at-in-Ok c = omega (arith, ends_at2 c)
 
 pub loop-at-smaller : goal.loop-at-smaller
 loop-at-smaller c = omega (arith, ends_at2 c)
 
 pub loop-at-preserved : goal.loop-at-preserved
 loop-at-preserved c =
-    let e = sym c.judge_line.ensures ∙ c.in-Gives.is in
-    rw (to_z-of_z {w = w64} {z = c.in-Gives.number} (search rules))
+    let e = sym c.judge_line.ensures ∙ c.in-Ok.is in
+    rw (to_z-of_z {w = w64} {z = c.in-Ok.number} (search rules))
     (given_line c.loop-at.invariant c.find-end.ensures (ends_at2 c) e)
 
 -- the line's end is within the bytes
-ends_at3 : (c : goal.After-no_sheet-in-Refused)
+ends_at3 : (c : goal.After-no_sheet-in-Err)
     → c.loop-at.at + c.find-end.result < length c.args.lines.now
 ends_at3 c = omega (arith, within c.loop-at.invariant c.find-end.ensures (omega arith))
 
-pub returns-in-Refused : goal.returns-in-Refused
-returns-in-Refused c =
+pub returns-in-Err : goal.returns-in-Err
+returns-in-Err c =
     let a = c.args in
-    let e = sym c.judge_line.ensures ∙ c.in-Refused.is in
-    c.no_sheet-in-Refused.ensures
+    let e = sym c.judge_line.ensures ∙ c.in-Err.is in
+    c.no_sheet-in-Err.ensures
     ∙ ap (λ (x : Answer). sheet_by x (numbers_in (lines_in a.lines.now)) a.before)
     (sym (refused_line c.loop-at.invariant c.find-end.ensures (ends_at3 c) e))
 

@@ -5,7 +5,7 @@ use Rattle.sheets.proofs.sheet.Laws.{Progress}
 use Rattle.sheets.proofs.sheet.read_lines.Given as goal
 
 abbrev pub invariant-loop-at : goal.invariant-loop-at
-invariant-loop-at l = Progress l.lines l.at l.numbers l.given
+invariant-loop-at l = Progress l.lines l.at l.found
 
 abbrev pub decreases-loop-at : goal.decreases-loop-at
 decreases-loop-at l = length l.lines - l.at

@@ -1,188 +1,67 @@
 -- `sheets::write::put_lines` meets its contract: the lines that are left, put from `at` on, give all the lines. Assumes nothing.
-use mathlib.Core.Path.{◌≡◌, refl, sym, ap, ap₂, ◌∙◌}
-use mathlib.Core.List.{List, ◌++◌}
-use Prim.Native.Nat.{ℕ, ◌+◌, ◌-◌}
-use native.Mathlib.Omega.{arith}
-use borrow.Author.Rules.{sfits_of}
-use lib.IntN.{ℤ, pos}
-use lib.ListN.{length, get_or, take, drop, length-append}
-use lib.Seq.{sets, length-sets}
+use Rattle.std.proofs.Common.{◌≡◌, sym, ap, ap₂, ◌∙◌, ℕ, ◌+◌, List, length, length-append, arith, rules}
+use Rattle.std.proofs.Math.Seq.{sets}
+use Rattle.std.proofs.lemmas.List.{length_push}
+use Rattle.std.proofs.lemmas.Slice.Zip.{zip_turn, zip_end}
 use mir.Syntax.{w64}
 use mir.Val.{to_z, of_z}
-use mir.ValLaws.{to_z-of_z}
+use mir.Facts.{to_z-of_z}
+use Rattle.fields.specs.Table.{subframe2_rows}
+use Rattle.sheets.specs.List.{sheet_rows, sheet_names}
 use Rattle.sheets.specs.Laws.Sets.{sets_append}
-use Rattle.sheets.proofs.write.Laws.{ended_line, lines_from, LineStep, line_step, lines_done}
+use Rattle.sheets.proofs.list.Laws.{names_of}
+use Rattle.sheets.proofs.write.Laws.{lines_from, ended_line, line_here, lines_done}
 use Rattle.sheets.proofs.write.put_lines.Goals as goal
 
-pub loop-k-init : goal.loop-k-init
-loop-k-init c = (omega arith, c.requires.0, omega arith, refl)
-
--- the line whose number is next
-step : (c : goal.After-find)
-    → let a = c.args in
-    let l = c.loop-k in
-    LineStep a.names.now a.numbers.now l.from l.k (l.from + c.find.result)
-step c =
-    let a = c.args in
-    let l = c.loop-k in
-    line_step a.names.now a.numbers.now l.from l.k c.loop-k-test.true l.invariant.1 c.find.result
-    c.find.ensures
-
-pub overflow_add-stop : goal.overflow_add-stop
-overflow_add-stop c = omega (arith, (step c).inside)
-
--- the line whose number is next
-step_at2 : (c : goal.After-put_line-arg-1)
-    → let a = c.args in
-    let l = c.loop-k in
-    LineStep a.names.now a.numbers.now l.from l.k (l.from + c.find.result)
-step_at2 c =
-    let a = c.args in
-    let l = c.loop-k in
-    line_step a.names.now a.numbers.now l.from l.k c.loop-k-test.true l.invariant.1 c.find.result
-    c.find.ensures
-
-pub slice_bounds-put_line-end : goal.slice_bounds-put_line-end
-slice_bounds-put_line-end c = omega (arith, (step_at2 c).inside)
-
--- its line, with the number as it is lent on
-abbrev line : goal.After-put_line-arg-in-loop-k-2-1 → List ℕ
-line c =
-    let a = c.args in
-    let l = c.loop-k in
-    let stop = l.from + c.find.result in
-    ended_line (take (stop - l.from) (drop l.from a.names.now)) (to_z w64 (of_z w64 (get_or a.numbers.now l.k (pos 0))))
-
--- the lines behind it
-abbrev others : goal.After-put_line-arg-in-loop-k-2-1 → List ℕ
-others c =
-    let a = c.args in
-    let l = c.loop-k in
-    lines_from a.names.now a.numbers.now (l.from + c.find.result + 1) (l.k + 1)
-
--- the line whose number is next
-step_at3 : (c : goal.After-put_line-arg-in-loop-k-2-1)
-    → let a = c.args in
-    let l = c.loop-k in
-    LineStep a.names.now a.numbers.now l.from l.k (l.from + c.find.result)
-step_at3 c =
-    let a = c.args in
-    let l = c.loop-k in
-    line_step a.names.now a.numbers.now l.from l.k c.loop-k-test.true l.invariant.1 c.find.result
-    c.find.ensures
-
-line_next : (c : goal.After-put_line-arg-in-loop-k-2-1)
-    → let a = c.args in
-    let l = c.loop-k in
-    lines_from a.names.now a.numbers.now l.from l.k ≡ line c ++ others c
-line_next c =
-    let a = c.args in
-    let l = c.loop-k in
-    let stop = l.from + c.find.result in
-    (step_at3 c).text
-    ∙ ap (λ (z : ℤ). ended_line (take (stop - l.from) (drop l.from a.names.now)) z ++ others c)
-    (sym (to_z-of_z w64 (get_or a.numbers.now l.k (pos 0)) (sfits_of c.put_line-arg-in-loop-k-2-1.given)))
-
--- they end where all lines end
-end_is : (c : goal.After-put_line-arg-in-loop-k-2-1)
-    → let a = c.args in
-    c.loop-k.at + length (line c) + length (others c)
-    ≡ length (lines_from a.names.now a.numbers.now 0 0)
-end_is c =
-    omega
-    (arith, ap length (line_next c), length-append (line c) (others c), c.loop-k.invariant.2)
-
--- what is lent keeps its length
-out_kept : (c : goal.After-put_line-arg-in-loop-k-2-1) → length c.loop-k.out ≡ length c.args.out.now
-out_kept c =
-    let a = c.args in
-    let l = c.loop-k in
-    sym (length-sets l.out l.at (lines_from a.names.now a.numbers.now l.from l.k))
-    ∙ ap length l.invariant.3
-    ∙ length-sets a.out.now 0 (lines_from a.names.now a.numbers.now 0 0)
-
 pub put_line-at-requires : goal.put_line-at-requires
-put_line-at-requires c = omega (arith, end_is c, c.requires.1, out_kept c)
+unfolding sheet_names sheet_rows subframe2_rows
+put_line-at-requires c =
+    let loop = c.loop-name in
+    let lent = c.iter.result.rest.now in
+    let numbers = c.args.numbers.now in
+    let k = length loop.yielded in
+    let name = c.in-Some.name.now in
+    let z = to_z w64 (of_z w64 c.in-Some.number.now) in
+    let turn =
+    zip_turn lent numbers loop.yielded c.into_iter-name-iterator.result loop.name-iterator c.next.new.self c.next.result (cc) (cc) loop.yielded_by
+    (c.in-Some.name, c.in-Some.number) c.in-Some.is c.next.ensures.steps in
+    let number : z ≡ c.in-Some.number.now = to_z-of_z {w = w64} (search rules) in
+    let this = line_here lent numbers k name z (ap names_of c.iter.ensures.rest) turn.0 turn.1 turn.2 (λ d. number ∙ turn.3 d) in
+    omega (arith, loop.invariant.0, ap length this, length-append (ended_line name.now z) (lines_from numbers (k + 1)), c.requires.1, loop.auto.out)
 
--- the line whose number is next
-step_at4 : (c : goal.After-slice_known-in-loop-k-1)
-    → let a = c.args in
-    let l = c.loop-k in
-    LineStep a.names.now a.numbers.now l.from l.k (l.from + c.find.result)
-step_at4 c =
-    let a = c.args in
-    let l = c.loop-k in
-    line_step a.names.now a.numbers.now l.from l.k c.loop-k-test.true l.invariant.1 c.find.result
-    c.find.ensures
-
-pub overflow_add-from : goal.overflow_add-from
-overflow_add-from c = omega (arith, (step_at4 c).inside)
-
--- its line, with the number as it is lent on
-abbrev line_at2 : goal.After-slice_known-in-loop-k-1 → List ℕ
-line_at2 c =
-    let a = c.args in
-    let l = c.loop-k in
-    let stop = l.from + c.find.result in
-    ended_line (take (stop - l.from) (drop l.from a.names.now)) (to_z w64 (of_z w64 (get_or a.numbers.now l.k (pos 0))))
-
--- the lines behind it
-abbrev others_at2 : goal.After-slice_known-in-loop-k-1 → List ℕ
-others_at2 c =
-    let a = c.args in
-    let l = c.loop-k in
-    lines_from a.names.now a.numbers.now (l.from + c.find.result + 1) (l.k + 1)
-
-line_next_at2 : (c : goal.After-slice_known-in-loop-k-1)
-    → let a = c.args in
-    let l = c.loop-k in
-    lines_from a.names.now a.numbers.now l.from l.k ≡ line_at2 c ++ others_at2 c
-line_next_at2 c =
-    let a = c.args in
-    let l = c.loop-k in
-    let stop = l.from + c.find.result in
-    (step_at4 c).text
-    ∙ ap (λ (z : ℤ). ended_line (take (stop - l.from) (drop l.from a.names.now)) z ++ others_at2 c)
-    (sym (to_z-of_z w64 (get_or a.numbers.now l.k (pos 0)) (sfits_of c.put_line-arg-in-loop-k-2-1.given)))
-
--- they end where all lines end
-end_is_at2 : (c : goal.After-slice_known-in-loop-k-1)
-    → let a = c.args in
-    c.loop-k.at + length (line_at2 c) + length (others_at2 c)
-    ≡ length (lines_from a.names.now a.numbers.now 0 0)
-end_is_at2 c =
-    omega
-    (arith, ap length (line_next_at2 c), length-append (line_at2 c) (others_at2 c), c.loop-k.invariant.2)
-
-pub loop-k-preserved : goal.loop-k-preserved
-loop-k-preserved c =
-    let put = c.put_line-at.ensures in
-    let l = c.loop-k in
-    let this = step_at4 c in (
-      omega (arith, this.inside),
-      this.left,
-      omega (arith, put.0, end_is_at2 c),
-      ap₂ (λ (o : List ℕ) (at : ℕ). sets o at (others_at2 c)) put.1 put.0
-          ∙ sym (sets_append (line_at2 c) (others_at2 c) l.out l.at)
-          ∙ ap (sets l.out l.at) (sym (line_next_at2 c))
-          ∙ l.invariant.3,
+pub loop-name-preserved : goal.loop-name-preserved
+unfolding sheet_names sheet_rows subframe2_rows
+loop-name-preserved c =
+    let loop = c.loop-name in
+    let lent = c.iter.result.rest.now in
+    let numbers = c.args.numbers.now in
+    let k = length loop.yielded in
+    let name = c.in-Some.name.now in
+    let z = to_z w64 (of_z w64 c.in-Some.number.now) in
+    let turn =
+    zip_turn lent numbers loop.yielded c.into_iter-name-iterator.result loop.name-iterator c.next.new.self c.next.result (cc) (cc) loop.yielded_by
+    (c.in-Some.name, c.in-Some.number) c.in-Some.is c.next.ensures.steps in
+    let number : z ≡ c.in-Some.number.now = to_z-of_z {w = w64} (search rules) in
+    let this = line_here lent numbers k name z (ap names_of c.iter.ensures.rest) turn.0 turn.1 turn.2 (λ d. number ∙ turn.3 d) in
+    let line = ended_line name.now z in
+    let others = lines_from numbers (k + 1) in
+    let next = length_push loop.yielded (c.in-Some.name, c.in-Some.number) in
+    let put = c.put_line-at.ensures in (
+      omega (arith, loop.invariant.0, ap length this, length-append line others, put.0, ap (λ (i : ℕ). length (lines_from numbers i)) next),
+      ap (λ (i : ℕ). sets c.put_line-at.new.out c.put_line-at.result (lines_from numbers i)) next
+          ∙ ap₂ (λ (o : List ℕ) (at : ℕ). sets o at others) put.1 put.0
+          ∙ sym (sets_append line others loop.out loop.at)
+          ∙ ap (sets loop.out loop.at) (sym this)
+          ∙ loop.invariant.1,
     )
-
--- what is lent keeps its length
-out_kept_at2 : (c : goal.After-loop-k) → length c.loop-k.out ≡ length c.args.out.now
-out_kept_at2 c =
-    let a = c.args in
-    let l = c.loop-k in
-    sym (length-sets l.out l.at (lines_from a.names.now a.numbers.now l.from l.k))
-    ∙ ap length l.invariant.3
-    ∙ length-sets a.out.now 0 (lines_from a.names.now a.numbers.now 0 0)
-
-pub shape_of-out : goal.shape_of-out
-shape_of-out c = out_kept_at2 c
 
 pub returns : goal.returns
 returns c =
-    let a = c.args in
-    let l = c.loop-k in
-    let none = lines_done a.names.now a.numbers.now l.from l.k c.loop-k-test.false in
-    (omega (arith, l.invariant.2, ap length none), ap (λ (x : List ℕ). sets l.out l.at x) (sym none) ∙ l.invariant.3)
+    let loop = c.loop-name in
+    let numbers = c.args.numbers.now in
+    let lent = c.iter.result.rest.now in
+    let done =
+    zip_end lent numbers loop.yielded c.into_iter-name-iterator.result loop.name-iterator c.next.new.self c.next.result (cc) (cc) loop.yielded_by c.in-None.is
+    c.next.ensures.steps in
+    let none = lines_done numbers (length loop.yielded) (omega (arith, done, ap length c.iter.ensures.rest, c.requires.0)) in
+    (omega (arith, loop.invariant.0, ap length none), ap (λ (x : List ℕ). sets loop.out loop.at x) (sym none) ∙ loop.invariant.1)

@@ -1,6 +1,0 @@
--- `known::tally::print_seen` is safe and ends. The measure is what is left of the bytes. Assumes nothing.
-use Rattle.std.proofs.Common.{length, ◌-◌}
-use Rattle.known.proofs.tally.print_seen.Given as goal
-
-abbrev pub decreases-loop-i : goal.decreases-loop-i
-decreases-loop-i l = length l.bytes - l.i

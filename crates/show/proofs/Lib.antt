@@ -1,0 +1,2 @@
+-- The laws that the proofs of `show` rest on.
+pub mod Counts
