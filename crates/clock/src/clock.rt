@@ -48,7 +48,7 @@ pub struct Clock {
 }
 
 // The counts whose clock terms they are.
-#[derive(Clone, Copy)]
+#[derive(Clone, Copy, PartialEq, Eq)]
 pub struct ClockCounts {
     pub af0: i64,
     pub af1: i64,
