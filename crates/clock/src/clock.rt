@@ -10,12 +10,16 @@ ghost use Rattle.clock.specs.Clock.{signed_field, term_of, count_in, is_count, t
 use words::bits::magnitude;
 use words::refusal::{Refusal, Rule};
 
-// A clock term: its width in bits, its first bit, and its step, which is 2^-step.
+// A clock term: its width in bits, its first bit, and its step, which is 2^-step. The width and the step are such that floating
+// numbers hold its terms exactly.
 #[derive(Clone, Copy)]
 struct Term {
     width: u64,
     bit: usize,
     step: u64,
+    ghost has_digits: { 0 < width },
+    ghost few_digits: { width ≤ 53 },
+    ghost small_step: { step ≤ 1000 },
 }
 
 const AF0: Term = Term {
@@ -66,7 +70,6 @@ fn power(e: u64) -> f64
 impl Term {
     // The count is in a signed field of its width.
     fn has_width(self, count: i64) -> bool
-        requires { (0 < self.width) × (self.width ≤ 53) }
         ensures { result ≡ in_range (signed_field self.width) count }
     {
         magnitude(count) < 1u64 << (self.width - 1)
@@ -74,7 +77,7 @@ impl Term {
 
     // The count times its step.
     fn term_of(self, count: i64) -> f64
-        requires { (self.step ≤ 1000) × (mag count < 2 ^ 52) }
+        requires { mag count < 2 ^ 52 }
         ensures { result ≡ term_of self.step count }
     {
         std::num::nearest_i64_to_f64(count) * power(1023 - self.step)
@@ -82,7 +85,6 @@ impl Term {
 
     // The count, in a signed field of its width, whose product with its step this is.
     fn count_of(self, x: f64) -> Option<i64>
-        requires { (self.step ≤ 1000) × (0 < self.width) × (self.width ≤ 53) }
         ensures { result ≡ count_in self.step (signed_field self.width) x }
     {
         let y = x * power(1023 + self.step);
@@ -97,7 +99,6 @@ impl Term {
 
     // The term of a count; refused 6 at the field's first bit unless the count is in the field's width.
     fn hand_out(self, count: i64) -> Result<f64, Refusal>
-        requires { (self.step ≤ 1000) × (0 < self.width) × (self.width ≤ 53) }
         ensures { result ≡ given_by (done_if (in_range (signed_field self.width) count) FIELD_2 self.bit) (term_of self.step count) }
     {
         if !self.has_width(count) {
@@ -108,7 +109,6 @@ impl Term {
 
     // The count whose term this is; refused 6 at the field's first bit if no count in the field's width has it.
     fn take_back(self, x: f64) -> Result<i64, Refusal>
-        requires { (self.step ≤ 1000) × (0 < self.width) × (self.width ≤ 53) }
         ensures { result ≡ given_by (done_if (is_count (count_in self.step (signed_field self.width) x)) FIELD_2 self.bit)
             (the_count (count_in self.step (signed_field self.width) x)) }
     {

@@ -10,6 +10,6 @@ use Rattle.clock.proofs.clock.Term.hand_out.Goals as goal
 pub term_of-requires : goal.term_of-requires
 term_of-requires c =
     let z : ℤ = to_z w64 (of_z w64 c.args.count) in
-    let w = c.args.self.width in
+    let term = c.args.self in
     let fine = sym c.has_width.ensures ∙ c.if-not-has_width.false in
-    (c.requires.0, omega (arith, range_most (signed_field w) z fine, narrow w c.requires.1 c.requires.2))
+    omega (arith, range_most (signed_field term.width) z fine, narrow term.width term.has_digits term.few_digits)
