@@ -1,5 +1,5 @@
 // Bytes of lines that are bits, and bytes that are lent.
-use super::input::{digit, is_next, read_number};
+use super::input::{digit, is_next, read_byte, read_number};
 
 // Reads so many bits, of which a byte up to `most` may be one, and the character that has to stand behind them, and says whether they
 // are such.
@@ -10,94 +10,76 @@ pub(crate) fn read_bits(bits: &mut [u8], most: u8, end: u8) -> bool {
     are_bits && is_end
 }
 
-// The same of the first so many of these bytes.
-pub(crate) fn read_first_bits(bits: &mut [u8], count: usize, end: u8) -> bool {
-    if count > bits.len() {
-        return false;
-    }
-    read_bits(&mut bits[..count], 1, end)
-}
-
 // Turns digits into their values, up to the first character that is no digit up to `most`, and says whether there is none.
 fn to_values(text: &mut [u8], most: u8) -> bool {
-    let mut i: usize = 0;
-    while i < text.len() {
-        let value = digit(text[i]);
-        if value > most {
-            return false;
+    for character in text.iter_mut() {
+        match digit(*character) {
+            Some(value) if value <= most => *character = value,
+            _ => return false,
         }
-        text[i] = value;
-        i += 1;
     }
     true
 }
 
 // Reads how many places are set, and sets them, up to the first that is none, and says whether there is none.
 pub(crate) fn set_places(bytes: &mut [u8]) -> bool {
-    let mut left = read_number(4, b' ');
-    if left > 9999 {
+    let Some(count) = read_number(4, b' ') else {
         return false;
-    }
-    while left > 0 {
+    };
+    for _ in 0..count {
         if !set_place(bytes) {
             return false;
         }
-        left -= 1;
     }
     true
 }
 
 fn set_place(bytes: &mut [u8]) -> bool {
     let place = read_number(4, b' ');
-    let value = read_number(3, b' ');
-    if value > 255 {
-        return false;
+    let byte = read_byte(b' ');
+    match (place, byte) {
+        (Some(place), Some(byte)) => with_byte(bytes, place, byte).is_some(),
+        _ => false,
     }
-    with_byte(bytes, place, value as u8) <= bytes.len()
 }
 
-// Sets a byte, and gives the place behind it; more than there is room for where there is no such place.
-pub(crate) fn with_byte(bytes: &mut [u8], at: usize, byte: u8) -> usize {
+// Sets a byte, and gives the place behind it; none where there is no such place.
+pub(crate) fn with_byte(bytes: &mut [u8], at: usize, byte: u8) -> Option<usize> {
     if at >= bytes.len() {
-        return usize::MAX;
+        return None;
     }
     bytes[at] = byte;
-    at + 1
+    Some(at + 1)
 }
 
 // Copies as many bytes as there are in both.
 pub(crate) fn copy_first(from: &[u8], into: &mut [u8]) {
-    let mut i: usize = 0;
-    while i < from.len() && i < into.len() {
-        into[i] = from[i];
-        i += 1;
-    }
+    let count = from.len().min(into.len());
+    into[..count].copy_from_slice(&from[..count]);
 }
 
 // The first so many bytes; all, where there are fewer.
-pub(crate) fn first_bytes<'a>(bytes: &'a [u8], count: usize) -> &'a [u8] {
-    if count > bytes.len() {
-        return bytes;
-    }
-    &bytes[..count]
+pub(crate) fn first_bytes(bytes: &[u8], count: usize) -> &[u8] {
+    bytes.get(..count).unwrap_or(bytes)
 }
 
-// The bytes behind the first so many; none, where there are fewer.
-pub(crate) fn bytes_behind<'a>(bytes: &'a [u8], count: usize) -> &'a [u8] {
-    if count > bytes.len() {
-        return &bytes[bytes.len()..];
+// The same with a number that was read; all, where it is none.
+pub(crate) fn first_told(bytes: &[u8], count: Option<usize>) -> &[u8] {
+    match count {
+        Some(count) => first_bytes(bytes, count),
+        None => bytes,
     }
-    &bytes[count..]
+}
+
+// Whether the bytes begin with these, and every byte behind them is `rest`.
+pub(crate) fn are_then(bytes: &[u8], first: &[u8], rest: u8) -> bool {
+    match bytes.strip_prefix(first) {
+        Some(behind) => all_are(behind, rest),
+        None => false,
+    }
 }
 
 // Whether every byte is this one.
 pub(crate) fn all_are(bytes: &[u8], byte: u8) -> bool {
-    let mut i: usize = 0;
-    while i < bytes.len() {
-        if bytes[i] != byte {
-            return false;
-        }
-        i += 1;
-    }
-    true
+    bytes.iter().all(|&b| b == byte)
 }

@@ -2,6 +2,7 @@
 // agree, and the number of each line that does not.
 #![tactic(auto)]
 
+mod base;
 mod build_cases;
 mod bytes;
 mod cases;
@@ -20,8 +21,10 @@ mod texts;
 mod told;
 mod walk_cases;
 
+use tally::Tally;
+
 fn main() {
-    let mut tally = [0u64; 18];
+    let mut tally = Tally::new();
     cases::run_all(&mut tally);
-    tally::print(&tally);
+    tally.print();
 }

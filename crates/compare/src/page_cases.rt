@@ -1,14 +1,14 @@
 // The cases of pages that are taken as records, and of records that are put.
-use super::bytes::{first_bytes, read_first_bits, set_places};
+use super::bytes::{first_told, read_bits, set_places};
 use super::input::{is_next, read_number};
-use super::records::{is_page, page_of, read_record};
+use super::records::Record;
 use super::told::{Told, is_told, read_told, tells_done};
 use fields::pages::{Page, judge_page, put_page, take_page};
 
 // What bytes hold that are lent to be put in, and what a record holds that its kind does not use.
 const GARBAGE: u8 = 7;
 
-const NO_COUNT: i64 = 9223372036854775807;
+const NO_COUNT: i64 = i64::MAX;
 
 // ---- taking
 
@@ -16,43 +16,33 @@ const NO_COUNT: i64 = 9223372036854775807;
 pub(crate) fn page_taken_agrees() -> bool {
     let mut bytes = [0u8; 251];
     let length = read_number(4, b' ');
-    let are_bits = read_first_bits(&mut bytes, 250, b' ');
+    let are_bits = read_bits(&mut bytes[..250], 1, b' ');
     let are_places = set_places(&mut bytes);
-    are_bits && are_places && taking_agrees(first_bytes(&bytes, length))
+    are_bits && are_places && taking_agrees(first_told(&bytes, length))
 }
 
 fn taking_agrees(bytes: &[u8]) -> bool {
-    let mut head = [0usize; 3];
-    let mut counts = [0i64; 30];
-    let mut bits = [0u8; 236];
+    let mut record = Record::new([0; 30], [0; 236]);
     let told = read_told(b' ');
-    let is_record = read_taken(told, &mut head, &mut counts, &mut bits);
-    is_record
-        && is_taken(bytes, told, &head, &counts, &bits)
-        && is_put_back(bytes, told, page_of(&head, counts, bits))
+    let is_record = read_taken(told, &mut record);
+    is_record && is_taken(bytes, told, &record) && is_put_back(bytes, told, record.page())
 }
 
 // The record, or nothing where it is refused.
-fn read_taken(told: Told, head: &mut [usize; 3], counts: &mut [i64], bits: &mut [u8]) -> bool {
+fn read_taken(told: Told, record: &mut Record) -> bool {
     if tells_done(told) {
-        read_record(head, counts, bits, b'\n')
+        record.read(b'\n')
     } else {
         is_next(b'\n')
     }
 }
 
-fn is_taken(
-    bytes: &[u8],
-    told: Told,
-    head: &[usize; 3],
-    counts: &[i64; 30],
-    bits: &[u8; 236],
-) -> bool {
+fn is_taken(bytes: &[u8], told: Told, record: &Record) -> bool {
     let judged = judge_page(bytes);
     let taken = take_page(bytes);
     let answer = taken.answer;
     let page = taken.page;
-    is_told(judged, told) && is_told(answer, told) && is_page(page, head, counts, bits)
+    is_told(judged, told) && is_told(answer, told) && record.is_page(&page)
 }
 
 fn is_put_back(bytes: &[u8], told: Told, page: Page) -> bool {
@@ -61,48 +51,48 @@ fn is_put_back(bytes: &[u8], told: Told, page: Page) -> bool {
     }
     let mut back = [GARBAGE; 250];
     let answer = put_page(page, &mut back);
-    is_told(answer, told) && check::same(&back, bytes)
+    is_told(answer, told) && back.as_slice() == bytes
 }
 
 // ---- putting
 
 // What the kind does not use is garbage, which putting does not look at.
 pub(crate) fn page_put_agrees() -> bool {
-    let mut head = [0usize; 3];
-    let mut counts = [NO_COUNT; 30];
-    let mut bits = [GARBAGE; 236];
+    let mut record = Record::new([NO_COUNT; 30], [GARBAGE; 236]);
     let room = read_number(4, b' ');
-    let is_record = read_record(&mut head, &mut counts, &mut bits, b' ');
-    let are_places = set_places(&mut bits);
-    is_record && are_places && record_put_agrees(page_of(&head, counts, bits), room)
+    let is_record = record.read(b' ');
+    let are_places = set_places(&mut record.bits);
+    is_record && are_places && record_put_agrees(record.page(), room)
 }
 
-fn record_put_agrees(page: Page, room: usize) -> bool {
+fn record_put_agrees(page: Page, room: Option<usize>) -> bool {
     let mut expected = [GARBAGE; 251];
     let told = read_told(b' ');
     let is_read = read_put(told, &mut expected);
     is_read && putting_agrees(page, room, told, &expected)
 }
 
-fn putting_agrees(page: Page, room: usize, told: Told, expected: &[u8; 251]) -> bool {
+fn putting_agrees(page: Page, room: Option<usize>, told: Told, expected: &[u8; 251]) -> bool {
     let mut bytes = [GARBAGE; 251];
-    first_put_agree(page, &mut bytes, room, told) && check::same(&bytes, expected)
+    first_put_agree(page, &mut bytes, room, told) && bytes == *expected
 }
 
 // The page bits, or nothing where it is refused.
-fn read_put(told: Told, expected: &mut [u8]) -> bool {
+fn read_put(told: Told, expected: &mut [u8; 251]) -> bool {
     if tells_done(told) {
-        read_first_bits(expected, 250, b'\n')
+        read_bits(&mut expected[..250], 1, b'\n')
     } else {
         is_next(b'\n')
     }
 }
 
 // Into the first `room` bytes.
-fn first_put_agree(page: Page, bytes: &mut [u8], room: usize, told: Told) -> bool {
-    if room > bytes.len() {
-        return false;
+fn first_put_agree(page: Page, bytes: &mut [u8], room: Option<usize>, told: Told) -> bool {
+    match room {
+        Some(room) if room <= bytes.len() => {
+            let answer = put_page(page, &mut bytes[..room]);
+            is_told(answer, told)
+        }
+        _ => false,
     }
-    let answer = put_page(page, &mut bytes[..room]);
-    is_told(answer, told)
 }

@@ -1,73 +1,106 @@
 // The records of pages, as the second program writes them.
-use super::bytes::read_first_bits;
+ghost use Rattle.std.specs.Prelude.{◌≤◌};
+
+use super::bytes::read_bits;
 use super::contents::read_counts;
-use super::input::read_number;
+use super::input::{read_byte, read_number};
 use fields::pages::{Kind, Page};
-use show::same_counts;
 
-// Reads a record and the character that has to stand behind it: into the head, PRN, page number and kind; of the counts and the bits,
-// as many as the kind uses.
-pub(crate) fn read_record(
-    head: &mut [usize; 3],
-    counts: &mut [i64],
-    bits: &mut [u8],
-    end: u8,
-) -> bool {
-    head[0] = read_number(3, b' ');
-    head[1] = read_number(3, b' ');
-    head[2] = read_number(1, b' ');
-    let are_counts = read_counts(counts, count_of(head[2]));
-    let are_bits = read_first_bits(bits, bit_count(head[2]), end);
-    are_counts && are_bits && head[0] <= 255 && head[1] <= 255
+// A record; its kind is none where the character stands for none.
+#[derive(Clone, Copy)]
+pub(crate) struct Record {
+    prn: u8,
+    number: u8,
+    kind: Option<Kind>,
+    counts: [i64; 30],
+    pub(crate) bits: [u8; 236],
 }
 
-// How many counts and bits a kind uses. The second program tells kinds by 1, 6, and 0 for bare bits.
-fn count_of(kind: usize) -> usize {
-    if kind == 1 {
-        return 17;
+impl Record {
+    // A record of bare bits, with its counts and bits as lent.
+    pub(crate) fn new(counts: [i64; 30], bits: [u8; 236]) -> Record {
+        Record {
+            prn: 0,
+            number: 0,
+            kind: Some(Kind::Bare),
+            counts,
+            bits,
+        }
     }
-    if kind == 6 { 30 } else { 0 }
-}
 
-fn bit_count(kind: usize) -> usize {
-    if kind == 1 {
-        return 74;
+    // Reads PRN, page number, kind, of the counts and the bits as many as the kind uses, and the character that has to stand behind
+    // them, and says whether they are such.
+    pub(crate) fn read(&mut self, end: u8) -> bool {
+        let prn = read_byte(b' ');
+        let number = read_byte(b' ');
+        self.kind = read_kind();
+        let are_counts = read_counts(&mut self.counts[..count_of(self.kind)]);
+        let are_bits = read_bits(&mut self.bits[..bit_count(self.kind)], 1, end);
+        match (prn, number) {
+            (Some(prn), Some(number)) => {
+                self.prn = prn;
+                self.number = number;
+                are_counts && are_bits
+            }
+            _ => false,
+        }
     }
-    if kind == 6 { 0 } else { 236 }
-}
 
-fn kind_of(number: usize) -> Kind {
-    if number == 1 {
-        return Kind::One;
+    // The page. A kind that is none is put as bare bits.
+    pub(crate) fn page(&self) -> Page {
+        Page {
+            prn: self.prn,
+            number: self.number,
+            kind: self.kind.unwrap_or(Kind::Bare),
+            counts: self.counts,
+            bits: self.bits,
+        }
     }
-    if number == 6 { Kind::Six } else { Kind::Bare }
+
+    pub(crate) fn is_page(&self, page: &Page) -> bool {
+        page.prn == self.prn
+            && page.number == self.number
+            && is_kind(self.kind, page.kind)
+            && page.counts == self.counts
+            && page.bits == self.bits
+    }
 }
 
-fn number_of(kind: Kind) -> usize {
+// The second program tells kinds by 1, 6, and 0 for bare bits.
+fn read_kind() -> Option<Kind> {
+    match read_number(1, b' ')? {
+        0 => Some(Kind::Bare),
+        1 => Some(Kind::One),
+        6 => Some(Kind::Six),
+        _ => None,
+    }
+}
+
+fn is_kind(told: Option<Kind>, kind: Kind) -> bool {
+    matches!(
+        (told, kind),
+        (Some(Kind::One), Kind::One) | (Some(Kind::Six), Kind::Six) | (Some(Kind::Bare), Kind::Bare)
+    )
+}
+
+// How many counts a kind uses.
+fn count_of(kind: Option<Kind>) -> usize
+    ensures { result ≤ 30 }
+{
     match kind {
-        Kind::One => 1,
-        Kind::Six => 6,
-        Kind::Bare => 0,
+        Some(Kind::One) => 17,
+        Some(Kind::Six) => 30,
+        _ => 0,
     }
 }
 
-pub(crate) fn page_of(head: &[usize; 3], counts: [i64; 30], bits: [u8; 236]) -> Page {
-    Page {
-        prn: (head[0] % 256) as u8,
-        number: (head[1] % 256) as u8,
-        kind: kind_of(head[2]),
-        counts,
-        bits,
+// How many bits.
+fn bit_count(kind: Option<Kind>) -> usize
+    ensures { result ≤ 236 }
+{
+    match kind {
+        Some(Kind::One) => 74,
+        Some(Kind::Six) => 0,
+        _ => 236,
     }
-}
-
-pub(crate) fn is_page(page: Page, head: &[usize; 3], counts: &[i64; 30], bits: &[u8; 236]) -> bool {
-    let kind = page.kind;
-    let page_counts = page.counts;
-    let page_bits = page.bits;
-    page.prn as usize == head[0]
-        && page.number as usize == head[1]
-        && number_of(kind) == head[2]
-        && same_counts(&page_counts, counts)
-        && check::same(&page_bits, bits)
 }

@@ -2,30 +2,31 @@
 use super::input::read_number;
 use words::refusal::Answer;
 
-// A refusal's number and place; zeros where nothing is refused.
-#[derive(Clone, Copy)]
-pub(crate) struct Told {
+// A refusal's number and place.
+#[derive(Clone, Copy, PartialEq, Eq)]
+pub(crate) struct Refused {
     pub(crate) number: usize,
     pub(crate) place: usize,
 }
 
-pub(crate) fn nothing_refused() -> Told {
-    Told {
-        number: 0,
-        place: 0,
-    }
-}
+// That it is done, or what is refused; none where the characters tell of neither.
+pub(crate) type Told = Option<Result<(), Refused>>;
 
-// Reads an answer and the character that has to stand behind it.
+pub(crate) const DONE: Told = Some(Ok(()));
+
+// Reads an answer and the character that has to stand behind it. Zeros tell that it is done.
 pub(crate) fn read_told(end: u8) -> Told {
     let number = read_number(2, b' ');
     let place = read_number(4, end);
-    Told { number, place }
+    match (number?, place?) {
+        (0, 0) => DONE,
+        (0, _) => None,
+        (number, place) => Some(Err(Refused { number, place })),
+    }
 }
 
-// Whether it tells of no refusal.
 pub(crate) fn tells_done(told: Told) -> bool {
-    told.number == 0 && told.place == 0
+    told == DONE
 }
 
 // Whether the answer is the one told.
@@ -33,7 +34,11 @@ pub(crate) fn is_told(answer: Answer, told: Told) -> bool {
     match answer {
         Answer::Done => tells_done(told),
         Answer::Refused(r) => {
-            told.number > 0 && r.number as usize == told.number && r.place == told.place
+            let refused = Refused {
+                number: r.number as usize,
+                place: r.place,
+            };
+            told == Some(Err(refused))
         }
     }
 }

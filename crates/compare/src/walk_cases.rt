@@ -5,33 +5,41 @@ use super::input::read_number;
 use super::texts::read_text;
 use super::told::{Told, is_told, read_told};
 use sheets::walk::walk_back;
-use show::same_counts;
 
-// Whether the steps so far agree, and the place where the walk is told to go on.
+// A step as the second program tells of it; none where the characters tell of no such thing.
 #[derive(Clone, Copy)]
-struct Walked {
-    agree: bool,
+struct ToldStep {
+    finished: Option<bool>,
+    numbers: Option<[i64; 34]>,
+    told: Told,
     place: usize,
 }
 
 pub(crate) fn walk_agrees(base_text: &[u8], text: &mut [u8]) -> bool {
     let count = read_text(base_text, text, b' ');
-    let place = read_number(4, b' ');
+    let place = read_place(b' ');
     let steps = read_number(4, b' ');
-    count <= text.len() && steps_agree(first_bytes(text, count), place, steps)
+    match (count, steps) {
+        (Some(count), Some(steps)) => steps_agree(first_bytes(text, count), place, steps),
+        _ => false,
+    }
 }
 
+// What is no number stands for a place past every text.
+fn read_place(end: u8) -> usize {
+    read_number(4, end).unwrap_or(usize::MAX)
+}
+
+// Each step is taken from the place where the one before is told to go on.
 fn steps_agree(bytes: &[u8], place: usize, steps: usize) -> bool {
-    if steps > 9999 {
-        return false;
+    let mut agree = true;
+    let mut from = place;
+    for left in (1..=steps).rev() {
+        let expected = read_step(step_end(left));
+        agree = step_agrees(bytes, from, &expected) && agree;
+        from = expected.place;
     }
-    let mut walked = Walked { agree: true, place };
-    let mut left = steps;
-    while left > 0 {
-        walked = with_step(bytes, walked, step_end(left));
-        left -= 1;
-    }
-    walked.agree
+    agree
 }
 
 // What stands behind a step: the line's end behind the last.
@@ -39,37 +47,42 @@ fn step_end(left: usize) -> u8 {
     if left == 1 { b'\n' } else { b' ' }
 }
 
-// Reads a step, and takes it.
-fn with_step(bytes: &[u8], walked: Walked, end: u8) -> Walked {
-    let mut numbers = [0i64; 34];
-    let finished = read_number(1, b' ');
-    let are_numbers = read_counts(&mut numbers, 34);
+fn read_step(end: u8) -> ToldStep {
+    let finished = read_finished();
+    let numbers = read_numbers();
     let told = read_told(b' ');
-    let place = read_number(4, end);
-    let is_step = step_agrees(bytes, walked.place, finished, &numbers, told, place);
-    Walked {
-        agree: walked.agree && are_numbers && is_step,
+    let place = read_place(end);
+    ToldStep {
+        finished,
+        numbers,
+        told,
         place,
     }
 }
 
-fn step_agrees(
-    bytes: &[u8],
-    from: usize,
-    finished: usize,
-    expected: &[i64; 34],
-    told: Told,
-    place: usize,
-) -> bool {
+fn read_numbers() -> Option<[i64; 34]> {
+    let mut numbers = [0i64; 34];
+    if read_counts(&mut numbers) {
+        Some(numbers)
+    } else {
+        None
+    }
+}
+
+fn step_agrees(bytes: &[u8], from: usize, expected: &ToldStep) -> bool {
     let step = walk_back(bytes, from);
     let answer = step.answer;
     let numbers = step.numbers;
-    is_finished(step.finished, finished)
-        && is_told(answer, told)
-        && step.place == place
-        && same_counts(&numbers, expected)
+    Some(step.finished) == expected.finished
+        && is_told(answer, expected.told)
+        && step.place == expected.place
+        && Some(numbers) == expected.numbers
 }
 
-fn is_finished(finished: bool, told: usize) -> bool {
-    if finished { told == 1 } else { told == 0 }
+fn read_finished() -> Option<bool> {
+    match read_number(1, b' ')? {
+        0 => Some(false),
+        1 => Some(true),
+        _ => None,
+    }
 }

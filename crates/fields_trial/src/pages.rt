@@ -4,13 +4,11 @@ use show::{done, expected, is_done, is_refused, refused};
 use words::bits::put_number;
 use words::refusal::Answer;
 
-// The number that a kind of record asks for; 0 for bare bits.
-pub(crate) fn number_of(kind: Kind) -> u8 {
-    match kind {
-        Kind::One => 1,
-        Kind::Six => 6,
-        Kind::Bare => 0,
-    }
+fn is_kind(kind: Kind, expected: Kind) -> bool {
+    matches!(
+        (kind, expected),
+        (Kind::One, Kind::One) | (Kind::Six, Kind::Six) | (Kind::Bare, Kind::Bare)
+    )
 }
 
 pub(crate) fn lengths() {
@@ -78,48 +76,37 @@ pub(crate) fn ranges() {
 }
 
 // A page that is taken, put into garbage: the same bits.
-fn comes_back(page: Page, bits: &[u8]) {
+fn comes_back(page: Page, bits: &[u8; 250]) {
     let mut back = [9u8; 250];
     done(b"  and put_page is done", put_page(page, &mut back));
-    expected(b"  and the bits are the same", check::same(&back, bits));
+    expected(b"  and the bits are the same", back == *bits);
 }
 
-fn has_head(page: Page, prn: u8, number: u8, own: u8) -> bool {
-    let kind = page.kind;
-    page.prn == prn && page.number == number && number_of(kind) == own
+fn has_head(page: Page, prn: u8, number: u8, kind: Kind) -> bool {
+    page.prn == prn && page.number == number && is_kind(page.kind, kind)
 }
 
-fn count_at(page: Page, k: usize) -> i64 {
-    let counts = page.counts;
-    if k < 30 { counts[k] } else { 0 }
-}
-
-fn bit_at(page: Page, k: usize) -> u8 {
-    let bits = page.bits;
-    if k < 236 { bits[k] } else { 0 }
-}
-
-// What was taken, its PRN, its page number, and the number that its kind asks for.
-fn is_taken(text: &[u8], taken: Taken, prn: u8, number: u8, own: u8) {
+// What was taken, its PRN, its page number and its kind.
+fn is_taken(text: &[u8], taken: Taken, prn: u8, number: u8, kind: Kind) {
     let answer = taken.answer;
     let page = taken.page;
-    expected(text, is_done(answer) && has_head(page, prn, number, own));
+    expected(text, is_done(answer) && has_head(page, prn, number, kind));
 }
 
 fn counts_are(text: &[u8], page: Page, first: i64, dn: i64, second: i64, last: i64) {
     expected(
         text,
-        count_at(page, A0) == first
-            && count_at(page, A1) == second
-            && count_at(page, DN) == dn
-            && count_at(page, 29) == last,
+        page.counts[A0] == first
+            && page.counts[A1] == second
+            && page.counts[DN] == dn
+            && page.counts[29] == last,
     );
 }
 
 fn bits_are(text: &[u8], page: Page, first: u8, next: u8, last: u8) {
     expected(
         text,
-        bit_at(page, 0) == first && bit_at(page, 74) == next && bit_at(page, 235) == last,
+        page.bits[0] == first && page.bits[74] == next && page.bits[235] == last,
     );
 }
 
@@ -136,7 +123,13 @@ pub(crate) fn taken_one() {
     bits_of_one(&mut bits);
     let taken = take_page(&bits);
     let page = taken.page;
-    is_taken(b"take_page of a page 1 is done: PRN 255", taken, 255, 1, 1);
+    is_taken(
+        b"take_page of a page 1 is done: PRN 255",
+        taken,
+        255,
+        1,
+        Kind::One,
+    );
     counts_are(
         b"  A0 -32768, DN 3, zeros behind the last",
         page,
@@ -162,7 +155,13 @@ pub(crate) fn taken_six() {
     bits_of_six(&mut bits);
     let taken = take_page(&bits);
     let page = taken.page;
-    is_taken(b"take_page of a page 6 is done: PRN 0", taken, 0, 6, 6);
+    is_taken(
+        b"take_page of a page 6 is done: PRN 0",
+        taken,
+        0,
+        6,
+        Kind::Six,
+    );
     counts_are(
         b"  text page 9, its first byte 65, its last 255",
         page,
@@ -184,7 +183,7 @@ pub(crate) fn taken_bare() {
         taken,
         255,
         63,
-        0,
+        Kind::Bare,
     );
     counts_are(b"  no counts", page, 0, 0, 0, 0);
     bits_are(b"  and the body", page, 1, 1, 1);
@@ -199,7 +198,7 @@ fn refuses(text: &[u8], bits: &[u8], number: u8, place: usize) {
     expected(text, is_refused(answer, number, place));
     expected(
         b"  and beside it are zeros",
-        has_head(page, 0, 0, 0) && count_at(page, 0) == 0 && bit_at(page, 0) == 0,
+        has_head(page, 0, 0, Kind::Bare) && page.counts[0] == 0 && page.bits[0] == 0,
     );
 }
 

@@ -1,8 +1,8 @@
 // What the function `put_page` of `fields::pages` refuses, and what it does not look at.
+ghost use Rattle.std.specs.Prelude.{◌≤◌};
+
 use fields::pages::{A0, DN, Kind, Page, TEXT_PAGE, TOT, put_page};
 use show::{done, expected, refused};
-
-const LEAST: i64 = -9223372036854775808;
 
 // Counts that are DN 1, and one other; the body's bits are zeros but one byte.
 fn page_with(kind: Kind, number: u8, k: usize, count: i64, at: usize, byte: u8) -> Page {
@@ -26,34 +26,28 @@ fn page_with(kind: Kind, number: u8, k: usize, count: i64, at: usize, byte: u8) 
 
 // Refused, and the bytes stay.
 fn stays(text: &[u8], page: Page, number: u8, place: usize) {
-    let before = [9u8; 250];
     let mut bits = [9u8; 250];
     refused(text, put_page(page, &mut bits), number, place);
-    expected(b"  and the bytes stay", check::same(&bits, &before));
+    expected(b"  and the bytes stay", bits == [9; 250]);
 }
 
 fn bare(number: u8) -> Page {
     page_with(Kind::Bare, number, 0, 0, 0, 1)
 }
 
-fn length(text: &[u8], bits: &mut [u8], before: &[u8]) {
-    refused(text, put_page(bare(255), bits), 1, 0);
-    expected(b"  and the bytes stay", check::same(bits, before));
+fn length<const N: usize>(text: &[u8])
+    requires { N ≤ 251 }
+{
+    let mut bits = [9u8; N];
+    refused(text, put_page(bare(255), &mut bits), 1, 0);
+    expected(b"  and the bytes stay", bits == [9; N]);
 }
 
 // A wrong length comes before a wrong page number.
 pub(crate) fn lengths() {
-    let before = [9u8; 251];
-    let mut none = [9u8; 0];
-    let mut short = [9u8; 249];
-    let mut long = [9u8; 251];
-    length(
-        b"put_page into nothing is refused 1 at 0",
-        &mut none,
-        &before[0..0],
-    );
-    length(b"  into 249 bytes too", &mut short, &before[0..249]);
-    length(b"  into 251 too", &mut long, &before);
+    length::<0>(b"put_page into nothing is refused 1 at 0");
+    length::<249>(b"  into 249 bytes too");
+    length::<251>(b"  into 251 too");
 }
 
 pub(crate) fn no_bits() {
@@ -71,7 +65,7 @@ pub(crate) fn no_bits() {
     );
     stays(
         b"page 1 with a last bit 2 2 at 73",
-        page_with(Kind::One, 6, A0, LEAST, 73, 2),
+        page_with(Kind::One, 6, A0, i64::MIN, 73, 2),
         2,
         73,
     );
@@ -84,13 +78,13 @@ pub(crate) fn numbers() {
     stays(b"of page 6 too", bare(6), 9, 9);
     stays(
         b"a page 1 record of page 6 too",
-        page_with(Kind::One, 6, A0, LEAST, 0, 0),
+        page_with(Kind::One, 6, A0, i64::MIN, 0, 0),
         9,
         9,
     );
     stays(
         b"a page 6 record of page 1 too",
-        page_with(Kind::Six, 1, TEXT_PAGE, LEAST, 0, 0),
+        page_with(Kind::Six, 1, TEXT_PAGE, i64::MIN, 0, 0),
         9,
         9,
     );
@@ -112,7 +106,7 @@ fn six(k: usize, count: i64) -> Page {
 
 pub(crate) fn ranges() {
     stays(b"A0 32768 is refused 9 at 15", one(A0, 32768), 9, 15);
-    stays(b"A0 the least of all too", one(A0, LEAST), 9, 15);
+    stays(b"A0 the least of all too", one(A0, i64::MIN), 9, 15);
     stays(b"tot 37800 9 at 59", one(TOT, 37800), 9, 59);
     stays(b"tot -1 too", one(TOT, -1), 9, 59);
     stays(b"DN 0 9 at 101", one(DN, 0), 9, 101);
@@ -132,11 +126,11 @@ fn is_put(text: &[u8], page: Page) {
 pub(crate) fn not_looked_at() {
     is_put(
         b"bare bits with any counts are put",
-        page_with(Kind::Bare, 63, 29, LEAST, 235, 1),
+        page_with(Kind::Bare, 63, 29, i64::MIN, 235, 1),
     );
     is_put(
         b"page 1 with any count 17 is put",
-        page_with(Kind::One, 1, 17, LEAST, 73, 1),
+        page_with(Kind::One, 1, 17, i64::MIN, 73, 1),
     );
     is_put(
         b"page 1 with any byte 74 is put",

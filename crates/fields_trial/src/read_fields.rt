@@ -4,8 +4,6 @@ use fields::subframe2::{Fields, ITOW, TOE, no_fields, read_fields};
 use show::{done, expected, is_done, is_refused};
 use words::bits::put_number;
 
-const LAST: usize = 18446744073709551615;
-
 // Refused, with zeros beside it.
 fn not_read(text: &[u8], fields: Fields, number: u8, place: usize) {
     let answer = fields.answer;
@@ -25,9 +23,9 @@ pub(crate) fn no_fields_at_all() {
     );
     not_read(
         b"no_fields(255, last) is that refusal, with zeros",
-        no_fields(255, LAST),
+        no_fields(255, usize::MAX),
         255,
-        LAST,
+        usize::MAX,
     );
 }
 

@@ -6,14 +6,6 @@ use fields::subframe2::{ECC, ISF, ITOW, TGD, TOE};
 use fields::table::{Field, Table, bit_count, field_at, field_count};
 use show::expected;
 
-const LAST: usize = 18446744073709551615;
-
-const LARGEST: u64 = 18446744073709551615;
-
-const LEAST: i64 = -9223372036854775808;
-
-const MOST: i64 = 9223372036854775807;
-
 fn size(text: &[u8], table: Table, fields: usize, bits: usize) {
     expected(
         text,
@@ -96,7 +88,7 @@ pub(crate) fn no_rows() {
     no_row(b"  of page 1", Table::Page1, 17);
     no_row(b"  of page 6", Table::Page6, 30);
     no_row(b"  of no fields", Table::NoFields, 0);
-    no_row(b"  at the last place of all", Table::Subframe2, LAST);
+    no_row(b"  at the last place of all", Table::Subframe2, usize::MAX);
 }
 
 fn within(text: &[u8], k: usize, count: i64, is_in: bool) {
@@ -117,7 +109,7 @@ pub(crate) fn ranges() {
 
 fn odd(text: &[u8], least: u64, most: u64, count: i64, is_in: bool) {
     let field = Field {
-        width: LAST,
+        width: usize::MAX,
         signed: true,
         least,
         most,
@@ -129,23 +121,23 @@ pub(crate) fn odd_ranges() {
     odd(
         b"the least of all is in a signed range without end",
         0,
-        LARGEST,
-        LEAST,
+        u64::MAX,
+        i64::MIN,
         true,
     );
-    odd(b"and the most", 0, LARGEST, MOST, true);
+    odd(b"and the most", 0, u64::MAX, i64::MAX, true);
     odd(
         b"the least is in the range to 2^63 - 1",
         0,
         9223372036854775807,
-        LEAST,
+        i64::MIN,
         true,
     );
     odd(
         b"and not in that to 2^63 - 2",
         0,
         9223372036854775806,
-        LEAST,
+        i64::MIN,
         false,
     );
     odd(
@@ -171,10 +163,10 @@ pub(crate) fn delays() {
     );
     expected(
         b"delay_of the least: that number",
-        delay_of(LEAST) == Some(LEAST),
+        delay_of(i64::MIN) == Some(i64::MIN),
     );
     expected(
         b"delay_of the most: that number",
-        delay_of(MOST) == Some(MOST),
+        delay_of(i64::MAX) == Some(i64::MAX),
     );
 }

@@ -4,11 +4,11 @@ use show::{expected, refused};
 use words::refusal::Refusal;
 
 // A step of each term is one divided by 2^35, 2^48, 2^60.
-const STEPS0: f64 = 34359738368.0;
+pub(crate) const STEPS0: f64 = 34359738368.0;
 
-const STEPS1: f64 = 281474976710656.0;
+pub(crate) const STEPS1: f64 = 281474976710656.0;
 
-const STEPS2: f64 = 1152921504606846976.0;
+pub(crate) const STEPS2: f64 = 1152921504606846976.0;
 
 fn of(af0: f64, af1: f64, af2: f64) -> Result<ClockCounts, Refusal> {
     counts_of(Clock { af0, af1, af2 })

@@ -1,51 +1,41 @@
 // The function `write_fields` of `fields::subframe2`.
-ghost use Rattle.std.specs.Prelude.{◌<◌};
+ghost use Rattle.std.specs.Prelude.{◌<◌, ◌≤◌};
 
 use fields::subframe2::{ITOW, TGD, TOE, read_fields, write_fields};
 use show::{done, expected, is_done, refused, same_counts};
 use words::bits::take_signed;
 
-const LEAST: i64 = -9223372036854775808;
-
-const MOST: i64 = 9223372036854775807;
-
 // Refused, and the bytes stay.
-fn stays(text: &[u8], counts: &[i64], bits: &mut [u8], before: &[u8], number: u8, place: usize) {
-    refused(text, write_fields(counts, bits), number, place);
-    expected(b"  and the bytes stay", check::same(bits, before));
+fn stays<const N: usize>(text: &[u8], counts: &[i64], before: [u8; N], number: u8, place: usize)
+    requires { N ≤ 577 }
+{
+    let mut bits = before;
+    refused(text, write_fields(counts, &mut bits), number, place);
+    expected(b"  and the bytes stay", bits == before);
 }
 
 fn of_counts(text: &[u8], counts: &[i64]) {
-    let before = [9u8; 576];
-    let mut bits = [9u8; 576];
-    stays(text, counts, &mut bits, &before, 1, 0);
+    stays(text, counts, [9; 576], 1, 0);
 }
 
-fn into(text: &[u8], bits: &mut [u8], before: &[u8]) {
-    let counts = [LEAST; 33];
-    stays(text, &counts, bits, before, 1, 0);
+fn into<const N: usize>(text: &[u8])
+    requires { N ≤ 577 }
+{
+    stays(text, &[i64::MIN; 33], [9; N], 1, 0);
 }
 
 // A wrong length comes before counts that are out of range.
 pub(crate) fn lengths() {
-    let counts = [LEAST; 34];
+    let counts = [i64::MIN; 34];
     of_counts(b"write_fields of nothing is refused 1 at 0", &counts[0..0]);
     of_counts(b"  of 32 counts too", &counts[0..32]);
     of_counts(b"  of 34 too", &counts);
 }
 
 pub(crate) fn other_bits() {
-    let before = [9u8; 577];
-    let mut none = [9u8; 0];
-    let mut short = [9u8; 575];
-    let mut long = [9u8; 577];
-    into(
-        b"write_fields into nothing is refused 1 at 0",
-        &mut none,
-        &before[0..0],
-    );
-    into(b"  into 575 bytes too", &mut short, &before[0..575]);
-    into(b"  into 577 too", &mut long, &before);
+    into::<0>(b"write_fields into nothing is refused 1 at 0");
+    into::<575>(b"  into 575 bytes too");
+    into::<577>(b"  into 577 too");
 }
 
 // Zeros with one other count, over garbage.
@@ -65,11 +55,9 @@ fn written(text: &[u8], k: usize, count: i64, at: usize, width: usize)
 fn not_written(text: &[u8], k: usize, count: i64, place: usize)
     requires { k < 33 }
 {
-    let before = [255u8; 576];
     let mut counts = [0i64; 33];
-    let mut bits = [255u8; 576];
     counts[k] = count;
-    stays(text, &counts, &mut bits, &before, 6, place);
+    stays(text, &counts, [255; 576], 6, place);
 }
 
 pub(crate) fn known() {
@@ -83,19 +71,15 @@ pub(crate) fn known() {
 }
 
 pub(crate) fn extreme() {
-    let before = [2u8; 576];
-    let least = [LEAST; 33];
-    let mut bits = [2u8; 576];
     stays(
         b"write_fields of the least of all is refused 6 at 1",
-        &least,
-        &mut bits,
-        &before,
+        &[i64::MIN; 33],
+        [2; 576],
         6,
         1,
     );
     not_written(b"  of wn 8192 too", 0, 8192, 1);
-    not_written(b"  of the most for isf 6 at 566", 32, MOST, 566);
+    not_written(b"  of the most for isf 6 at 566", 32, i64::MAX, 566);
 }
 
 // -1 is in the range of signed fields alone: wn, the first field, has none.

@@ -1,18 +1,13 @@
 // The function of `frames::build`.
-ghost use Rattle.std.specs.Prelude.{◌<◌};
+ghost use Rattle.std.specs.Prelude.{◌<◌, ◌≤◌};
 
 use fields::subframe2::{ITOW, TGD, TOE};
 use frames::build::build;
 use show::{done, expected, refused};
 use words::bits::put_number;
 
-const LEAST: i64 = -9223372036854775808;
-
-const MOST: i64 = 9223372036854775807;
-
 // Over garbage.
 pub(crate) fn zeros() {
-    let after = [0u8; 1800];
     let counts = [0i64; 33];
     let page = [0u8; 250];
     let mut frame = [255u8; 1800];
@@ -20,18 +15,14 @@ pub(crate) fn zeros() {
         b"build of zeros is done",
         build(0, &counts, &page, &mut frame),
     );
-    expected(
-        b"  and the frame is 1800 zeros",
-        check::same(&frame, &after),
-    );
+    expected(b"  and the frame is 1800 zeros", frame == [0; 1800]);
 }
 
 // Refused, and the frame stays.
 fn stays(text: &[u8], toi: u16, counts: &[i64], page: &[u8], number: u8, place: usize) {
-    let before = [7u8; 1800];
     let mut frame = [7u8; 1800];
     refused(text, build(toi, counts, page, &mut frame), number, place);
-    expected(b"  and the frame stays", check::same(&frame, &before));
+    expected(b"  and the frame stays", frame == [7; 1800]);
 }
 
 // Everything else is wrong too: a wrong length comes first.
@@ -41,12 +32,12 @@ fn of_counts(text: &[u8], counts: &[i64]) {
 }
 
 fn of_page(text: &[u8], page: &[u8]) {
-    let counts = [LEAST; 33];
+    let counts = [i64::MIN; 33];
     stays(text, 400, &counts, page, 1, 0);
 }
 
 fn other_contents() {
-    let counts = [LEAST; 34];
+    let counts = [i64::MIN; 34];
     let page = [255u8; 251];
     of_counts(b"build of no counts is refused 1 at 0", &counts[0..0]);
     of_counts(b"  of 32 too", &counts[0..32]);
@@ -56,25 +47,20 @@ fn other_contents() {
     of_page(b"  of 251 too", &page);
 }
 
-fn into(text: &[u8], frame: &mut [u8], before: &[u8]) {
+fn into<const N: usize>(text: &[u8])
+    requires { N ≤ 1801 }
+{
     let counts = [0i64; 33];
     let page = [0u8; 250];
-    refused(text, build(0, &counts, &page, frame), 1, 0);
-    expected(b"  and it stays", check::same(frame, before));
+    let mut frame = [7u8; N];
+    refused(text, build(0, &counts, &page, &mut frame), 1, 0);
+    expected(b"  and it stays", frame == [7; N]);
 }
 
 fn other_frames() {
-    let before = [7u8; 1801];
-    let mut none = [7u8; 0];
-    let mut short = [7u8; 1799];
-    let mut long = [7u8; 1801];
-    into(
-        b"build into nothing is refused 1 at 0",
-        &mut none,
-        &before[0..0],
-    );
-    into(b"  into 1799 bytes too", &mut short, &before[0..1799]);
-    into(b"  into 1801 too", &mut long, &before);
+    into::<0>(b"build into nothing is refused 1 at 0");
+    into::<1799>(b"  into 1799 bytes too");
+    into::<1801>(b"  into 1801 too");
 }
 
 pub(crate) fn lengths() {
@@ -83,7 +69,7 @@ pub(crate) fn lengths() {
 }
 
 pub(crate) fn no_bits() {
-    let counts = [LEAST; 33];
+    let counts = [i64::MIN; 33];
     let garbage = [255u8; 250];
     let mut page = [0u8; 250];
     stays(
@@ -106,7 +92,7 @@ pub(crate) fn no_bits() {
 }
 
 pub(crate) fn times() {
-    let counts = [LEAST; 33];
+    let counts = [i64::MIN; 33];
     let page = [0u8; 250];
     stays(
         b"build of time 400 is refused 3 at 0",
@@ -158,8 +144,13 @@ pub(crate) fn known() {
 
 pub(crate) fn extreme() {
     not_with_count(b"build with wn -1 is refused 6 at 1", 0, -1, 1);
-    not_with_count(b"  with the least of all for m0 6 at 141", 10, LEAST, 141);
-    not_with_count(b"  with the most for isf 6 at 566", 32, MOST, 566);
+    not_with_count(
+        b"  with the least of all for m0 6 at 141",
+        10,
+        i64::MIN,
+        141,
+    );
+    not_with_count(b"  with the most for isf 6 at 566", 32, i64::MAX, 566);
 }
 
 fn with_page(text: &[u8], count: i64, tot: u64, dn: u64, number: u8, place: usize) {

@@ -1,7 +1,5 @@
 // Counts of subframe 2.
-use show::same_counts;
 
 pub(crate) fn are_zeros(counts: &[i64; 33]) -> bool {
-    let zeros = [0i64; 33];
-    same_counts(counts, &zeros)
+    *counts == [0; 33]
 }

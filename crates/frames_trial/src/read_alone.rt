@@ -77,73 +77,79 @@ fn put_blocks(two: &mut [u8; 1200], three: &mut [u8; 548], symbols: &mut [u8]) {
     interleave(two, three, symbols);
 }
 
-// The check bits of data symbols, where they are to be right.
-fn check_if(is_checked: bool, data: &mut [u8]) {
-    if is_checked {
-        put_check(data);
-    }
+// A number among the data symbols of subframe 2.
+fn two_with(text: &[u8], at: usize, width: usize, number: u64) -> [u8; 1200] {
+    let mut two = [0u8; 1200];
+    done(text, put_number(&mut two, at, width, number));
+    two
 }
 
-// A number among the data symbols of subframe 2.
-fn with_two(
-    text: &[u8],
-    at: usize,
-    width: usize,
-    number: u64,
-    is_checked: bool,
-    refusal: u8,
-    place: usize,
-) {
-    let mut two = [0u8; 1200];
+// The same, with the check bits behind it.
+fn checked_two_with(text: &[u8], at: usize, width: usize, number: u64) -> [u8; 1200] {
+    let mut two = two_with(text, at, width, number);
+    put_check(&mut two[0..600]);
+    two
+}
+
+fn two_is_refused(data: [u8; 1200], refusal: u8, place: usize) {
+    let mut two = data;
     let mut three = [0u8; 548];
     let mut symbols = [0u8; 1800];
-    done(text, put_number(&mut two, at, width, number));
-    check_if(is_checked, &mut two[0..600]);
     put_blocks(&mut two, &mut three, &mut symbols[52..1800]);
     only_two(b"  read refuses it", &symbols, refusal, place);
 }
 
 // A page 1 with DN 0.
-fn with_three(text: &[u8], tot: u64, is_checked: bool, refusal: u8, place: usize) {
-    let mut two = [0u8; 1200];
+fn three_with(text: &[u8], tot: u64) -> [u8; 548] {
     let mut three = [0u8; 548];
-    let mut symbols = [0u8; 1800];
     put_number(&mut three, 8, 6, 1);
     done(text, put_number(&mut three, 58, 16, tot));
-    check_if(is_checked, &mut three[0..274]);
+    three
+}
+
+fn checked_three_with(text: &[u8], tot: u64) -> [u8; 548] {
+    let mut three = three_with(text, tot);
+    put_check(&mut three[0..274]);
+    three
+}
+
+fn three_is_refused(data: [u8; 548], refusal: u8, place: usize) {
+    let mut two = [0u8; 1200];
+    let mut three = data;
+    let mut symbols = [0u8; 1800];
     put_blocks(&mut two, &mut three, &mut symbols[52..1800]);
     only_three(b"  read refuses it", &symbols, refusal, place);
 }
 
 pub(crate) fn checks() {
-    with_two(
-        b"itow 84 without its check bits: 5 at 0",
-        13,
-        8,
-        84,
-        false,
+    two_is_refused(
+        two_with(b"itow 84 without its check bits: 5 at 0", 13, 8, 84),
         5,
         0,
     );
-    with_three(
-        b"a page 1 without its check bits: 8 at 0",
-        37800,
-        false,
+    three_is_refused(
+        three_with(b"a page 1 without its check bits: 8 at 0", 37800),
         8,
         0,
     );
 }
 
 pub(crate) fn ranges() {
-    with_two(b"itow 84: 6 at 14", 13, 8, 84, true, 6, 14);
-    with_two(b"toe 2016: 6 at 39", 38, 11, 2016, true, 6, 39);
-    with_two(b"a reserved bit: 6 at 567", 575, 1, 1, true, 6, 567);
-    with_three(
-        b"a page 1 with tot 37799 and DN 0: 9 at 101",
-        37799,
-        true,
+    two_is_refused(checked_two_with(b"itow 84: 6 at 14", 13, 8, 84), 6, 14);
+    two_is_refused(checked_two_with(b"toe 2016: 6 at 39", 38, 11, 2016), 6, 39);
+    two_is_refused(
+        checked_two_with(b"a reserved bit: 6 at 567", 575, 1, 1),
+        6,
+        567,
+    );
+    three_is_refused(
+        checked_three_with(b"a page 1 with tot 37799 and DN 0: 9 at 101", 37799),
         9,
         101,
     );
-    with_three(b"a page 1 with tot 37800: 9 at 59", 37800, true, 9, 59);
+    three_is_refused(
+        checked_three_with(b"a page 1 with tot 37800: 9 at 59", 37800),
+        9,
+        59,
+    );
 }

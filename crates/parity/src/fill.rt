@@ -10,15 +10,6 @@ use tables::matrix::{Subframe, Submatrix, add, equations, solve};
 use words::bits::first_not_bit;
 use words::refusal::{Refusal, Rule};
 
-// T⁻¹ times the sums.
-fn solve_into(subframe: Subframe, sums: &[u8], unknowns: &mut [u8])
-    requires { length sums.now ≡ length unknowns.old }
-    ensures { unknowns.new ≡ solved (matrix_of subframe).t sums.now }
-{
-    unknowns.copy_from_slice(sums);
-    solve(subframe, unknowns);
-}
-
 // Behind the data symbols this p1, and as p2 T⁻¹ times the sums.
 fn put_with(subframe: Subframe, p1: u8, sums: &[u8], block: &mut [u8])
     requires { (length block.old ≡ (matrix_of subframe).equations + (matrix_of subframe).equations)
@@ -27,9 +18,10 @@ fn put_with(subframe: Subframe, p1: u8, sums: &[u8], block: &mut [u8])
         ≡ data_of (matrix_of subframe) block.old ++ p1 ∷ solved (matrix_of subframe).t sums.now }
 {
     let n = equations(subframe);
-    let m = n + 1;
     block[n] = p1;
-    solve_into(subframe, sums, &mut block[m..]);
+    let p2 = &mut block[n + 1..];
+    p2.copy_from_slice(sums);
+    solve(subframe, p2);
 }
 
 // The parity behind the data symbols, by sums that start from zero. With a p1 of 0, the sum of the last equation is p1.

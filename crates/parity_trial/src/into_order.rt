@@ -1,26 +1,28 @@
 // The function `interleave` of `parity::order`, and back where it is done.
+ghost use Rattle.std.specs.Prelude.{◌≤◌};
+
 use parity::order::{deinterleave, interleave};
 use show::{done, expected, refused};
 
 // Into order over garbage, and back over garbage.
-fn in_order(text: &[u8], block2: &[u8], block3: &[u8], after: &[u8]) {
+fn in_order(text: &[u8], block2: &[u8], block3: &[u8], after: &[u8; 1748]) {
     let mut symbols = [255u8; 1748];
     done(text, interleave(block2, block3, &mut symbols));
-    expected(b"  and the symbols are those", check::same(&symbols, after));
+    expected(b"  and the symbols are those", symbols == *after);
 }
 
-fn out_of_order(symbols: &[u8], after2: &[u8], after3: &[u8]) {
+fn out_of_order(symbols: &[u8], after2: &[u8; 1200], after3: &[u8; 548]) {
     let mut block2 = [255u8; 1200];
     let mut block3 = [255u8; 548];
     done(
         b"  deinterleave of them is done",
         deinterleave(symbols, &mut block2, &mut block3),
     );
-    expected(b"  and block 2 is back", check::same(&block2, after2));
-    expected(b"  and block 3 is back", check::same(&block3, after3));
+    expected(b"  and block 2 is back", block2 == *after2);
+    expected(b"  and block 3 is back", block3 == *after3);
 }
 
-fn both_ways(text: &[u8], block2: &[u8], block3: &[u8], symbols: &[u8]) {
+fn both_ways(text: &[u8], block2: &[u8; 1200], block3: &[u8; 548], symbols: &[u8; 1748]) {
     in_order(text, block2, block3, symbols);
     out_of_order(symbols, block2, block3);
 }
@@ -76,7 +78,6 @@ pub(crate) fn single_ones() {
 
 // Into order: refused, and the symbols stay.
 fn not_in_order(text: &[u8], block2: &[u8], block3: &[u8], number: u8, place: usize) {
-    let before = [9u8; 1748];
     let mut symbols = [9u8; 1748];
     refused(
         text,
@@ -84,15 +85,18 @@ fn not_in_order(text: &[u8], block2: &[u8], block3: &[u8], number: u8, place: us
         number,
         place,
     );
-    expected(b"  and the symbols stay", check::same(&symbols, &before));
+    expected(b"  and the symbols stay", symbols == [9; 1748]);
 }
 
 // The same into symbols of another length, from good blocks.
-fn not_into(text: &[u8], symbols: &mut [u8], before: &[u8]) {
+fn not_into<const N: usize>(text: &[u8])
+    requires { N ≤ 1749 }
+{
     let block2 = [0u8; 1200];
     let block3 = [0u8; 548];
-    refused(text, interleave(&block2, &block3, symbols), 1, 0);
-    expected(b"  and the symbols stay", check::same(symbols, before));
+    let mut symbols = [9u8; N];
+    refused(text, interleave(&block2, &block3, &mut symbols), 1, 0);
+    expected(b"  and the symbols stay", symbols == [9; N]);
 }
 
 // A wrong length comes before bytes that are no bits.
@@ -125,16 +129,9 @@ pub(crate) fn lengths_of_block3() {
 }
 
 pub(crate) fn lengths_of_symbols() {
-    let before = [9u8; 1749];
-    let mut short = [9u8; 1747];
-    let mut long = [9u8; 1749];
-    not_into(
-        b"interleave into 1747 bytes is refused 1 at 0",
-        &mut short,
-        &before[0..1747],
-    );
-    not_into(b"  into 1749 too", &mut long, &before);
-    not_into(b"  into nothing too", &mut short[0..0], &before[0..0]);
+    not_into::<1747>(b"interleave into 1747 bytes is refused 1 at 0");
+    not_into::<1749>(b"  into 1749 too");
+    not_into::<0>(b"  into nothing too");
 }
 
 fn garbage() {

@@ -1,4 +1,6 @@
 // The functions `equations` and `add` of `tables::matrix`.
+ghost use Rattle.std.specs.Prelude.{◌<◌, ◌≤◌};
+
 use show::expected;
 use tables::matrix::{Subframe, Submatrix, add, equations};
 
@@ -13,19 +15,14 @@ pub(crate) fn counts() {
     );
 }
 
-fn stay(text: &[u8], sums: &[u8; 600], before: &[u8; 600]) {
-    expected(text, check::same(sums, before));
-}
-
 // Over no symbols nothing is added, and into no sums neither.
 fn empty(text: &[u8], subframe: Subframe, submatrix: Submatrix) {
     let garbage = [255u8; 600];
-    let before = [9u8; 600];
     let mut sums = [9u8; 600];
     add(subframe, submatrix, &garbage[0..0], &mut sums);
-    expected(text, check::same(&sums, &before));
+    expected(text, sums == [9; 600]);
     add(subframe, submatrix, &garbage, &mut sums[0..0]);
-    stay(b"  and into nothing neither", &sums, &before);
+    expected(b"  and into nothing neither", sums == [9; 600]);
 }
 
 pub(crate) fn empty_ones() {
@@ -53,10 +50,9 @@ pub(crate) fn empty_ones() {
 
 // The sum of the first row, from 0.
 fn first(text: &[u8], subframe: Subframe, submatrix: Submatrix, symbols: &[u8], sum: u8) {
-    let after = [sum; 1];
     let mut sums = [0u8; 1];
     add(subframe, submatrix, symbols, &mut sums);
-    expected(text, check::same(&sums, &after));
+    expected(text, sums == [sum]);
 }
 
 // C is one row: in subframe 2 it has five ones, from column 74 on, in subframe 3 four, from column 23 on.
@@ -121,11 +117,9 @@ pub(crate) fn last_rows() {
 
 // D over one byte, from another.
 fn bit_by_bit(text: &[u8], subframe: Subframe, symbol: u8, before: u8, sum: u8) {
-    let symbols = [symbol; 1];
-    let after = [sum; 1];
     let mut sums = [before; 1];
-    add(subframe, Submatrix::D, &symbols, &mut sums);
-    expected(text, check::same(&sums, &after));
+    add(subframe, Submatrix::D, &[symbol], &mut sums);
+    expected(text, sums == [sum]);
 }
 
 pub(crate) fn no_bits() {
@@ -141,11 +135,16 @@ pub(crate) fn no_bits() {
 }
 
 // A symbol over the first column alone, into zeros: its rows and no others get it.
-fn first_column(text: &[u8], subframe: Subframe, submatrix: Submatrix, symbol: u8, rows: &[u8]) {
-    let symbols = [symbol; 1];
+fn first_column(
+    text: &[u8],
+    subframe: Subframe,
+    submatrix: Submatrix,
+    symbol: u8,
+    rows: &[u8; 600],
+) {
     let mut sums = [0u8; 600];
-    add(subframe, submatrix, &symbols, &mut sums);
-    expected(text, check::same(&sums, rows));
+    add(subframe, submatrix, &[symbol], &mut sums);
+    expected(text, sums == *rows);
 }
 
 // Rows 1, 151 and 440; rows 1, 17 and 231.
@@ -174,38 +173,30 @@ pub(crate) fn first_columns() {
     );
 }
 
-fn cut(text: &[u8], sums: &[u8; 50], after: &[u8; 50]) {
-    expected(text, check::same(sums, after));
+// B over a one, into the first `count` sums: one row and no other gets it.
+fn cut_after(text: &[u8], subframe: Subframe, count: usize, row: usize)
+    requires prefix { count ≤ 50 }
+    requires row_inside { row < 50 }
+{
+    let mut after = [0u8; 50];
+    let mut sums = [0u8; 50];
+    after[row] = 1;
+    add(subframe, Submatrix::B, &[1], &mut sums[..count]);
+    expected(text, sums == after);
 }
 
 // Row 44, or row 20, would be the next byte.
-fn cut_short_two() {
-    let one = [1u8; 1];
-    let mut after = [0u8; 50];
-    let mut sums = [0u8; 50];
-    after[0] = 1;
-    add(Subframe::Two, Submatrix::B, &one, &mut sums[0..43]);
-    cut(
-        b"B of subframe 2 into 43 sums: row 1, and nothing past the end",
-        &sums,
-        &after,
-    );
-}
-
-fn cut_short_three() {
-    let one = [1u8; 1];
-    let mut after = [0u8; 50];
-    let mut sums = [0u8; 50];
-    after[2] = 1;
-    add(Subframe::Three, Submatrix::B, &one, &mut sums[0..19]);
-    cut(
-        b"B of subframe 3 into 19 sums: row 3, and nothing past the end",
-        &sums,
-        &after,
-    );
-}
-
 pub(crate) fn cut_short() {
-    cut_short_two();
-    cut_short_three();
+    cut_after(
+        b"B of subframe 2 into 43 sums: row 1, and nothing past the end",
+        Subframe::Two,
+        43,
+        0,
+    );
+    cut_after(
+        b"B of subframe 3 into 19 sums: row 3, and nothing past the end",
+        Subframe::Three,
+        19,
+        2,
+    );
 }

@@ -1,42 +1,41 @@
 // What the function `deinterleave` of `parity::order` refuses.
+ghost use Rattle.std.specs.Prelude.{◌≤◌};
+
 use parity::order::deinterleave;
 use show::{expected, refused};
 
-fn blocks_stay(block2: &[u8], before2: &[u8], block3: &[u8], before3: &[u8]) {
-    expected(b"  and block 2 stays", check::same(block2, before2));
-    expected(b"  and block 3 stays", check::same(block3, before3));
-}
-
-// Refused for the symbols, and the blocks stay.
-fn not_apart(text: &[u8], symbols: &[u8], number: u8, place: usize) {
-    let before2 = [9u8; 1200];
-    let before3 = [9u8; 548];
-    let mut block2 = [9u8; 1200];
-    let mut block3 = [9u8; 548];
+// Refused, into blocks of these lengths, which stay.
+fn stay<const N: usize, const M: usize>(text: &[u8], symbols: &[u8], number: u8, place: usize)
+    requires size2 { N ≤ 1201 }
+    requires size3 { M ≤ 549 }
+{
+    let mut block2 = [9u8; N];
+    let mut block3 = [9u8; M];
     refused(
         text,
         deinterleave(symbols, &mut block2, &mut block3),
         number,
         place,
     );
-    blocks_stay(&block2, &before2, &block3, &before3);
+    expected(b"  and block 2 stays", block2 == [9; N]);
+    expected(b"  and block 3 stays", block3 == [9; M]);
+}
+
+fn not_apart(text: &[u8], symbols: &[u8], number: u8, place: usize) {
+    stay::<1200, 548>(text, symbols, number, place);
 }
 
 // Good symbols into a block of another length.
-fn not_into_block2(text: &[u8], block2: &mut [u8], before: &[u8]) {
-    let symbols = [0u8; 1748];
-    let before3 = [9u8; 548];
-    let mut block3 = [9u8; 548];
-    refused(text, deinterleave(&symbols, block2, &mut block3), 1, 0);
-    blocks_stay(block2, before, &block3, &before3);
+fn not_into_block2<const N: usize>(text: &[u8])
+    requires { N ≤ 1201 }
+{
+    stay::<N, 548>(text, &[0; 1748], 1, 0);
 }
 
-fn not_into_block3(text: &[u8], block3: &mut [u8], before: &[u8]) {
-    let symbols = [0u8; 1748];
-    let before2 = [9u8; 1200];
-    let mut block2 = [9u8; 1200];
-    refused(text, deinterleave(&symbols, &mut block2, block3), 1, 0);
-    blocks_stay(&block2, &before2, block3, before);
+fn not_into_block3<const N: usize>(text: &[u8])
+    requires { N ≤ 549 }
+{
+    stay::<1200, N>(text, &[0; 1748], 1, 0);
 }
 
 // A wrong length comes before bytes that are no bits.
@@ -53,29 +52,15 @@ pub(crate) fn lengths_of_symbols() {
 }
 
 pub(crate) fn lengths_of_block2() {
-    let before = [9u8; 1201];
-    let mut short = [9u8; 1199];
-    let mut long = [9u8; 1201];
-    not_into_block2(
-        b"deinterleave into 1199 bytes for block 2 is refused 1 at 0",
-        &mut short,
-        &before[0..1199],
-    );
-    not_into_block2(b"  into 1201 too", &mut long, &before);
-    not_into_block2(b"  into nothing too", &mut short[0..0], &before[0..0]);
+    not_into_block2::<1199>(b"deinterleave into 1199 bytes for block 2 is refused 1 at 0");
+    not_into_block2::<1201>(b"  into 1201 too");
+    not_into_block2::<0>(b"  into nothing too");
 }
 
 pub(crate) fn lengths_of_block3() {
-    let before = [9u8; 549];
-    let mut short = [9u8; 547];
-    let mut long = [9u8; 549];
-    not_into_block3(
-        b"deinterleave into 547 bytes for block 3 is refused 1 at 0",
-        &mut short,
-        &before[0..547],
-    );
-    not_into_block3(b"  into 549 too", &mut long, &before);
-    not_into_block3(b"  into nothing too", &mut short[0..0], &before[0..0]);
+    not_into_block3::<547>(b"deinterleave into 547 bytes for block 3 is refused 1 at 0");
+    not_into_block3::<549>(b"  into 549 too");
+    not_into_block3::<0>(b"  into nothing too");
 }
 
 pub(crate) fn no_bits() {

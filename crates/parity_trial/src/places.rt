@@ -2,8 +2,6 @@
 use parity::order::{Place, place_before, place_in_order};
 use show::{expected, is_done, is_refused};
 
-const LAST: usize = 18446744073709551615;
-
 fn is_at(place: Place, index: usize) -> bool {
     let answer = place.answer;
     place.index == index && is_done(answer)
@@ -48,6 +46,6 @@ pub(crate) fn past_the_end() {
     );
     nowhere(
         b"place_in_order of the largest number is refused 1 at 0, with 0 beside it",
-        LAST,
+        usize::MAX,
     );
 }

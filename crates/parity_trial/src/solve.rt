@@ -1,16 +1,13 @@
 // The function `solve` of `tables::matrix`.
+ghost use Rattle.std.specs.Prelude.{◌≤◌};
+
 use show::expected;
 use tables::matrix::{Subframe, Submatrix, add, solve};
 
-fn stay(text: &[u8], bytes: &[u8; 9], before: &[u8; 9]) {
-    expected(text, check::same(bytes, before));
-}
-
 fn of_nothing(text: &[u8], subframe: Subframe) {
-    let before = [255u8; 9];
     let mut bytes = [255u8; 9];
     solve(subframe, &mut bytes[0..0]);
-    stay(text, &bytes, &before);
+    expected(text, bytes == [255; 9]);
 }
 
 pub(crate) fn nothing() {
@@ -25,71 +22,66 @@ pub(crate) fn nothing() {
 }
 
 // Solved in place, and then as expected.
-fn becomes(text: &[u8], subframe: Subframe, unknowns: &mut [u8], after: &[u8]) {
-    solve(subframe, unknowns);
-    expected(text, check::same(unknowns, after));
+fn becomes<const N: usize>(text: &[u8], subframe: Subframe, sums: [u8; N], after: [u8; N])
+    requires { N ≤ 599 }
+{
+    let mut unknowns = sums;
+    solve(subframe, &mut unknowns);
+    expected(text, unknowns == after);
 }
 
 // The first column of T has ones in rows 1 and 2, the second in 2, 3 and one that lies far below.
 pub(crate) fn known() {
-    let after = [1u8; 3];
-    let mut two = [0u8; 3];
-    let mut three = [0u8; 3];
-    two[0] = 1;
-    three[0] = 1;
     becomes(
         b"solve of 1 0 0, for subframe 2, leaves 1 1 1",
         Subframe::Two,
-        &mut two,
-        &after,
+        [1, 0, 0],
+        [1, 1, 1],
     );
     becomes(
         b"solve of 1 0 0, for subframe 3, leaves 1 1 1",
         Subframe::Three,
-        &mut three,
-        &after,
+        [1, 0, 0],
+        [1, 1, 1],
     );
     becomes(
         b"solve of one byte 1, for subframe 2, leaves it",
         Subframe::Two,
-        &mut two[0..1],
-        &after[0..1],
+        [1],
+        [1],
     );
-    becomes(
-        b"  for subframe 3 too",
-        Subframe::Three,
-        &mut three[0..1],
-        &after[0..1],
-    );
+    becomes(b"  for subframe 3 too", Subframe::Three, [1], [1]);
 }
 
-// T over the bytes, into zeros, and back from these sums.
-fn there_and_back(text: &[u8], subframe: Subframe, bytes: &[u8], sums: &mut [u8]) {
-    add(subframe, Submatrix::T, bytes, sums);
+// T over these bytes, into zeros, and back from these sums.
+fn there_and_back<const N: usize>(text: &[u8], subframe: Subframe, byte: u8)
+    requires { N ≤ 599 }
+{
+    let bytes = [byte; N];
+    let mut sums = [0u8; N];
+    add(subframe, Submatrix::T, &bytes, &mut sums);
     becomes(text, subframe, sums, bytes);
 }
 
-fn back_two(text: &[u8], byte: u8) {
-    let bytes = [byte; 599];
-    let mut sums = [0u8; 599];
-    there_and_back(text, Subframe::Two, &bytes, &mut sums);
-}
-
-fn back_three(text: &[u8], byte: u8) {
-    let bytes = [byte; 273];
-    let mut sums = [0u8; 273];
-    there_and_back(text, Subframe::Three, &bytes, &mut sums);
-}
-
 pub(crate) fn back() {
-    back_two(
+    there_and_back::<599>(
         b"solve of T times 599 ones, for subframe 2, leaves the ones",
+        Subframe::Two,
         1,
     );
-    back_two(b"solve of T times garbage leaves the garbage", 255);
-    back_three(
+    there_and_back::<599>(
+        b"solve of T times garbage leaves the garbage",
+        Subframe::Two,
+        255,
+    );
+    there_and_back::<273>(
         b"solve of T times 273 ones, for subframe 3, leaves the ones",
+        Subframe::Three,
         1,
     );
-    back_three(b"solve of T times garbage leaves the garbage", 255);
+    there_and_back::<273>(
+        b"solve of T times garbage leaves the garbage",
+        Subframe::Three,
+        255,
+    );
 }

@@ -1,14 +1,8 @@
 // The way back: a frame in, the page line and the sheet out that the bench program would take.
-ghost use Rattle.std.specs.Prelude.{◌≡◌, ◌∷◌, ◌≤◌, ◌+◌, pos, length};
-ghost use Rattle.std.proofs.lemmas.List.Edits.{sets};
-ghost use Rattle.words.specs.Bits.{IsBits};
+ghost use Rattle.std.specs.Prelude.{◌≡◌, ◌∷◌, ◌≤◌, pos, length};
 ghost use Rattle.words.specs.Refusal.{left_by};
-ghost use Rattle.fields.specs.Counts.{AllInRange};
 ghost use Rattle.frames.specs.Frame.{FRAME, GoodContents};
 ghost use Rattle.frames.specs.Build.{contents_of};
-ghost use Rattle.frames.specs.Read.{frame_read};
-ghost use Rattle.sheets.specs.List.{sheet_fields};
-ghost use Rattle.sheets.specs.Write.{sheet_text};
 ghost use Rattle.programs.specs.Symbols.{symbols_in};
 ghost use Rattle.programs.specs.Output.{OUTPUT_BYTES, output_of};
 ghost use Rattle.programs.specs.Reading.{frame_line, frame_line_answer, contents_text, frame_text, printed_sheet};
@@ -55,8 +49,7 @@ fn contents_output(frame: Frame) -> Output
     output.put(b"corrected ");
     output.put_number(frame.corrected as u64);
     output.put(b"\n");
-    let page = frame.page;
-    output.put_line(&page);
+    output.put_line(&frame.page);
     let numbers = numbers_of(frame.toi, frame.counts);
     output.put_sheet(&numbers);
     output

@@ -1,6 +1,5 @@
 // Symbols as characters: `0` and `1`.
-ghost use Rattle.std.specs.Prelude.{◌≡◌, ◌≤◌, ◌+◌, length};
-ghost use Rattle.std.proofs.lemmas.List.Edits.{sets};
+ghost use Rattle.std.specs.Prelude.{◌≡◌, length};
 ghost use Rattle.words.specs.Bits.{IsBits};
 ghost use Rattle.words.specs.Refusal.{left_by};
 ghost use Rattle.programs.specs.Symbols.{is_symbol, first_other, symbols_in, characters_of, symbols_answer};

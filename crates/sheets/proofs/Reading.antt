@@ -2,13 +2,14 @@
 -- name stands in it once.
 -- Assumes nothing.
 use Rattle.std.specs.Prelude.{◌≡◌, true, List, [], ◌++◌, ◌↔◌, ℕ, ◌<◌, ℤ, pos, length, get_or, take}
-use Rattle.std.proofs.Common.{sym, ap, ◌∙◌, arith, lt-ltb}
+use Rattle.std.proofs.Common.{sym, ap, ◌∙◌, arith, lt-ltb, Result}
 use Rattle.std.proofs.Math.Seq.{take-append_seam}
 use Rattle.sheets.specs.Text.{LINE_END, after_last, occurrences}
 use Rattle.sheets.specs.List.{sheet_names, position_in}
 use Rattle.sheets.specs.Trailer.{start_of, lines_bytes, trailer_text}
 use Rattle.sheets.specs.Lines.{name_in, is_listed, lines_in, numbers_in}
-use Rattle.sheets.specs.Sheet.{line_text, line_texts, SameLines, IsSheet, SheetAt, OneLine, sheet_is, sheet_read, before_sheet}
+use Rattle.words.specs.declared.refusal.Refusal.{Refusal}
+use Rattle.sheets.specs.Sheet.{line_text, line_texts, SameLines, IsSheet, SheetAt, OneLine, sheet_is, sheet_read, before_sheet, sheet_before}
 use Rattle.sheets.specs.Due.{EndsWith}
 use Rattle.sheets.specs.Laws.Judging.{listed_position}
 use Rattle.sheets.specs.Laws.Meaning.{name_at, only_named, fine_text, line_of}
@@ -38,7 +39,7 @@ read_exactly s zs n = (to, from)
 -- The part before the sheet is what stands before it.
 pub before_exactly : (front sheet : List ℕ) (zs : List ℤ) → IsSheet zs sheet → before_sheet (front ++ sheet) ≡ front
 before_exactly front sheet zs is =
-    ap (λ (x : Sheet). take x.before (front ++ sheet)) (is_read zs sheet is front) ∙ take-append_seam front sheet
+    ap (λ (x : Result Sheet Refusal). take (sheet_before x) (front ++ sheet)) (is_read zs sheet is front) ∙ take-append_seam front sheet
 
 -- Two sheets that differ only in the order of their lines are read the same.
 pub any_order : (s t front other body mixed : List ℕ) (zs : List ℤ) (n : ℕ) → EndsWith s front body → EndsWith t other mixed

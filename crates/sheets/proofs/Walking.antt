@@ -1,17 +1,16 @@
 -- THEOREMS: the walk. It gives every sheet of a file, from the last to the first.
 -- Assumes nothing.
 use Rattle.std.specs.Prelude.{◌≡◌, List, [], ◌∷◌, ◌++◌, map, ℕ, ◌<◌, ℤ, length}
-use Rattle.std.proofs.Common.{sym, ap, ◌∙◌, subst, append_assoc, append-nil, arith, length-append}
+use Rattle.std.proofs.Common.{sym, ap, ◌∙◌, subst, append_assoc, append-nil, arith, length-append, Some}
 use Rattle.std.proofs.Math.Seq.{take-append_seam}
 use Rattle.sheets.specs.Text.{LINE_END, ended_by}
 use Rattle.sheets.specs.Trailer.{trailer_text}
 use Rattle.sheets.specs.Sheet.{IsSheet, sheet_read}
 use Rattle.sheets.specs.Write.{sheet_text}
-use Rattle.sheets.specs.Walk.{step_by, step_at, sheet_step, WalkGives, no_step, one_step, file_of, AreSheets, AllGood}
+use Rattle.sheets.specs.Walk.{step_at, sheet_step, WalkGives, no_step, one_step, file_of, AreSheets, AllGood}
 use Rattle.sheets.specs.Writing.{written_right}
 use Rattle.sheets.proofs.Laws.Reading.{is_read}
 use Rattle.sheets.specs.Laws.Trailer.{trailer_long}
-use Rattle.sheets.specs.declared.sheet.Sheet.{Sheet}
 use Rattle.sheets.specs.Walking.{walk_reads}
 
 sheet_some : (zs : List ℤ) (sheet : List ℕ) → IsSheet zs sheet → 0 < length sheet
@@ -24,8 +23,8 @@ sheet_step_lem : (front sheet behind : List ℕ) (zs : List ℤ) → IsSheet zs 
 sheet_step_lem front sheet behind zs is =
     let long = length-append (front ++ sheet) behind in
     walk_reads ((front ++ sheet) ++ behind) (length (front ++ sheet)) (omega (arith, length-append front sheet, sheet_some zs sheet is)) (omega arith)
-    ∙ ap (λ (l : List ℕ). step_by (sheet_read l) (length (front ++ sheet))) (take-append_seam (front ++ sheet) behind)
-    ∙ ap (λ (x : Sheet). step_by x (length (front ++ sheet))) (is_read zs sheet is front)
+    ∙ ap (λ (l : List ℕ). Some (sheet_read l)) (take-append_seam (front ++ sheet) behind)
+    ∙ ap Some (is_read zs sheet is front)
 
 walk_behind : (front behind : List ℕ) (all : List (List ℤ)) (sheets : List (List ℕ)) → AreSheets all sheets
     → WalkGives (file_of front sheets ++ behind) (length (file_of front sheets)) all (length front)

@@ -1,8 +1,7 @@
 -- The lines of a sheet (document 01, "The sheet" and "Numbers given on refusal"): judged line by line, 11 12 13 14, and then 15.
 -- Assumes nothing.
 use Rattle.std.specs.Prelude.{Bool, false, cond, not, ◌||◌, List, [], ◌∷◌, ◌++◌, map, ℕ, suc, ◌+◌, eqb, ltb, ℤ, pos, length, get_or, take, drop}
-use Rattle.words.specs.Refusal.{LINE, NAME, NAME_AGAIN, NUMBER, NAME_MISSING, done_if, in_turn}
-use Rattle.words.specs.declared.refusal.Answer.{Answer}
+use Rattle.words.specs.Refusal.{LINE, NAME, NAME_AGAIN, NUMBER, NAME_MISSING, done_if, in_turn, Answer}
 use Rattle.fields.specs.Table.{no_field}
 use Rattle.fields.specs.declared.table.Field.{Field}
 use Rattle.sheets.specs.Text.{LINE_END, EQUALS, index_of, same_bytes, parts_ended, after_last}

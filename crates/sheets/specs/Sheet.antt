@@ -1,12 +1,11 @@
 -- The sheet (document 01, "The sheet"): what it means, and reading it at the end of lent bytes.
 -- Assumes nothing.
-use Rattle.std.specs.Prelude.{◌≡◌, List, [], ◌∷◌, ◌++◌, ℕ, ◌≤◌, ◌<◌, ℤ, pos, length, get_or, replicate, take}
-use Rattle.words.specs.Refusal.{TRAILER, refused_at, done_if, in_turn}
-use Rattle.words.specs.declared.refusal.Answer.{Answer}
-use Rattle.words.specs.declared.refusal.Answer.TheVariants.{Done, Refused}
+use Rattle.std.specs.Prelude.{◌≡◌, List, [], ◌∷◌, ◌++◌, ℕ, ◌≤◌, ◌<◌, ℤ, length, get_or, take, Result, Ok, Err}
+use Rattle.words.specs.Refusal.{Answer, TRAILER, done_if, given_by, in_turn}
+use Rattle.words.specs.declared.refusal.Refusal.{Refusal}
 use Rattle.fields.specs.Counts.{AllInRange}
 use Rattle.sheets.specs.Text.{LINE_END, EQUALS, ended_by, occurrences}
-use Rattle.sheets.specs.List.{NUMBERS, sheet_names, sheet_fields}
+use Rattle.sheets.specs.List.{sheet_names, sheet_fields}
 use Rattle.sheets.specs.Number.{numeral}
 use Rattle.sheets.specs.Trailer.{MOST_BYTES, has_trailer, start_of, lines_bytes, trailer_text}
 use Rattle.sheets.specs.Lines.{name_in, lines_in, numbers_in, body_answer}
@@ -62,23 +61,27 @@ pub record OneLine (lines : List (List ℕ)) (name : List ℕ) (z : ℤ) : Type 
 abbrev pub sheet_answer : List ℕ → Answer
 sheet_answer s = in_turn (done_if (has_trailer s) TRAILER 0) (body_answer (lines_bytes s))
 
--- a refusal, with zeros beside it
-abbrev pub no_sheet : ℕ → ℕ → Sheet
-no_sheet number place = record { answer = refused_at number place; numbers = replicate NUMBERS (pos 0); before = 0 }
-
 -- the numbers of a sheet, and how many bytes stand before it
-abbrev pub sheet_is : List ℤ → ℕ → Sheet
-sheet_is zs before = record { answer = Done; numbers = zs; before = before }
+abbrev pub sheet_is : List ℤ → ℕ → Result Sheet Refusal
+sheet_is zs before = Ok (record { numbers = zs; before = before })
 
 -- by the answer
-abbrev pub sheet_by : Answer → List ℤ → ℕ → Sheet
-sheet_by Done zs before = sheet_is zs before
-sheet_by (Refused r) zs before = no_sheet r.number r.place
+abbrev pub sheet_by : Answer → List ℤ → ℕ → Result Sheet Refusal
+sheet_by a zs before = given_by a (record { numbers = zs; before = before })
+
+-- what was read of a sheet; nothing where it was refused
+abbrev pub sheet_numbers : Result Sheet Refusal → List ℤ
+sheet_numbers (Ok sheet) = sheet.numbers
+sheet_numbers (Err r) = []
+
+abbrev pub sheet_before : Result Sheet Refusal → ℕ
+sheet_before (Ok sheet) = sheet.before
+sheet_before (Err r) = 0
 
 -- reading the sheet at the end of s
-unfoldable pub sheet_read : List ℕ → Sheet
+unfoldable pub sheet_read : List ℕ → Result Sheet Refusal
 sheet_read s = sheet_by (sheet_answer s) (numbers_in (lines_in (lines_bytes s))) (start_of s)
 
 -- the part of s before it; empty on a refusal
 abbrev pub before_sheet : List ℕ → List ℕ
-before_sheet s = take (sheet_read s).before s
+before_sheet s = take (sheet_before (sheet_read s)) s

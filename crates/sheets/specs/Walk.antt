@@ -1,43 +1,30 @@
 -- The walk (document 01, "The sheet"): from the last sheet to the first. At place 0 it says finished; on a refused sheet it gives the
 -- refusal and its place stays; a place past the end is 1 at 0.
 -- Assumes nothing.
-use Rattle.std.specs.Prelude.{◌≡◌, true, false, cond, List, [], ◌∷◌, ◌++◌, ℕ, eqb, leb, ℤ, pos, length, replicate, take}
+use Rattle.std.specs.Prelude.{◌≡◌, Option, None, Some, Result, Ok, Err, cond, List, [], ◌∷◌, ◌++◌, ℕ, eqb, leb, ℤ, length, take}
 use Rattle.words.specs.Refusal.{LENGTH, refused_at}
-use Rattle.words.specs.declared.refusal.Answer.{Answer}
-use Rattle.words.specs.declared.refusal.Answer.TheVariants.{Done, Refused}
+use Rattle.words.specs.declared.refusal.Refusal.{Refusal}
 use Rattle.fields.specs.Counts.{AllInRange}
-use Rattle.sheets.specs.List.{NUMBERS, sheet_fields}
-use Rattle.sheets.specs.Sheet.{IsSheet, sheet_read}
+use Rattle.sheets.specs.List.{sheet_fields}
+use Rattle.sheets.specs.Sheet.{IsSheet, sheet_is, sheet_read}
 use Rattle.sheets.specs.declared.sheet.Sheet.{Sheet}
-use Rattle.sheets.specs.declared.walk.Step.{Step}
 
--- the walk is at the first byte: it is finished, and there are no numbers
-abbrev pub finished_step : Step
-finished_step = record { finished = true; answer = Done; numbers = replicate NUMBERS (pos 0); place = 0 }
+-- one step of the walk over s from this place: none at the first byte, where it is finished, and else what is read of the sheet that ends at
+-- the place; a place past the end is refused
+unfoldable pub step_at : List ℕ → ℕ → Option (Result Sheet Refusal)
+step_at s place = cond (leb place (length s)) (cond (eqb place 0) None (Some (sheet_read (take place s)))) (Some (refused_at LENGTH 0))
 
--- a place past the end: refused, and it stays
-abbrev pub past_end : ℕ → Step
-past_end place = record { finished = false; answer = refused_at LENGTH 0; numbers = replicate NUMBERS (pos 0); place = place }
-
--- where the walk goes on: at the sheet's first byte; on a refusal at the same place
-abbrev pub next_place : Answer → ℕ → ℕ → ℕ
-next_place Done before place = before
-next_place (Refused r) before place = place
-
--- what was read of the sheet that ends at the place
-abbrev pub step_by : Sheet → ℕ → Step
-step_by sheet place =
-    record { finished = false; answer = sheet.answer; numbers = sheet.numbers; place = next_place sheet.answer sheet.before place }
-
--- one step of the walk over s from this place
-unfoldable pub step_at : List ℕ → ℕ → Step
-step_at s place = cond (leb place (length s)) (cond (eqb place 0) finished_step (step_by (sheet_read (take place s)) place)) (past_end place)
+-- where the walk goes on after a step: at the sheet's first byte; finished or on a refusal, at the same place
+abbrev pub place_after : Option (Result Sheet Refusal) → ℕ → ℕ
+place_after None place = place
+place_after (Some (Ok sheet)) place = sheet.before
+place_after (Some (Err r)) place = place
 
 -- ---- walking over the sheets of a file
 
 -- the step that gives these numbers, and goes on at the sheet's first byte
-abbrev pub sheet_step : List ℤ → ℕ → Step
-sheet_step zs place = record { finished = false; answer = Done; numbers = zs; place = place }
+abbrev pub sheet_step : List ℤ → ℕ → Option (Result Sheet Refusal)
+sheet_step zs place = Some (sheet_is zs place)
 
 -- from one place of s to another, the walk gives these numbers, one sheet after another
 pub data WalkGives (s : List ℕ) : ℕ → List (List ℤ) → ℕ → Type 0 where

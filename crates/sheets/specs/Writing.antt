@@ -2,17 +2,15 @@
 -- Assumes nothing.
 use Rattle.std.specs.Prelude.{◌≡◌, refl, Bool, List, ◌++◌, ◌↔◌, ℕ, ◌≤◌, eqb, leb, ℤ, length, drop}
 use Rattle.std.proofs.Common.{ap, ap₂, ◌∙◌, arith, eq-eqb, eqb-true, le-leb, leb-true}
-use Rattle.words.specs.Refusal.{LENGTH, ROOM, done_if, in_turn, left_by}
+use Rattle.words.specs.Refusal.{LENGTH, ROOM, done_if, in_turn, left_by, Answer, Done, given_by}
 use Rattle.words.specs.Unchanged.{Refuses, refused_by_answer}
 use Rattle.words.specs.Laws.Turns.{both_done, test_done}
-use Rattle.words.specs.declared.refusal.Answer.{Answer}
-use Rattle.words.specs.declared.refusal.Answer.TheVariants.{Done}
 use Rattle.fields.specs.Counts.{AllInRange}
 use Rattle.frames.specs.Due.{RefusesWith}
 use Rattle.frames.specs.Laws.Due.{refused_by}
 use Rattle.sheets.specs.List.{NUMBERS, sheet_names, sheet_fields}
 use Rattle.sheets.specs.Sheet.{line_texts, IsSheet}
-use Rattle.sheets.specs.Write.{sheet_text, numbers_answer, write_answer, written_by, sheet_written, written_bytes}
+use Rattle.sheets.specs.Write.{sheet_text, numbers_answer, write_answer, sheet_written, written_bytes}
 use Rattle.sheets.specs.Due.{WriteDue}
 use Rattle.sheets.specs.Laws.Lengths.{good_range, range_good, lines_short}
 use Rattle.sheets.specs.Laws.Writing.{write_due_refused, write_verdict}
@@ -42,11 +40,11 @@ write_exactly zs out = (to, from)
 
 -- Then the sheet stands from the first lent byte on, the bytes after it stay, and its length is handed back.
 pub write_bytes : (zs : List ℤ) (out : List ℕ) → write_answer zs out ≡ Done
-    → (written_bytes zs out ≡ sheet_text zs ++ drop (length (sheet_text zs)) out) × (sheet_written zs out ≡ written_by Done (length (sheet_text zs)))
+    → (written_bytes zs out ≡ sheet_text zs ++ drop (length (sheet_text zs)) out) × (sheet_written zs out ≡ given_by Done (length (sheet_text zs)))
 unfolding written_bytes sheet_written
 write_bytes zs out e = (
   ap (λ (a : Answer). left_by a (sheet_text zs ++ drop (length (sheet_text zs)) out) out) e,
-  ap (λ (a : Answer). written_by a (length (sheet_text zs))) e,
+  ap (λ (a : Answer). given_by a (length (sheet_text zs))) e,
 )
 
 -- Writing refuses with number n at p exactly where that is due.

@@ -2,32 +2,20 @@
 ghost use Rattle.std.specs.Prelude.{◌≡◌, map, pos, is_none, unwrap_or};
 ghost use Rattle.std.specs.List.{position};
 ghost use Rattle.sheets.specs.Lines.{numbers_in, lines_in, body_answer};
-ghost use Rattle.sheets.specs.Sheet.{no_sheet, sheet_by, sheet_read, before_sheet};
+ghost use Rattle.sheets.specs.Sheet.{sheet_by, sheet_read, before_sheet};
 ghost use Rattle.sheets.specs.Laws.Steps.{finished_sheet};
 
 use super::lines::{Found, judge_line};
 use super::list::LISTED;
 use super::text::find;
 use super::trailer::sheet_start;
-use words::refusal::{Answer, LINE, NAME_MISSING, TRAILER, refuse};
+use words::refusal::{Refusal, Rule};
 
-// What reading a sheet gives: its numbers, toi's first, and how many bytes stand before it; or a refusal with zeros beside it.
+// What reading a sheet gives: its numbers, toi's first, and how many bytes stand before it.
 #[derive(Clone, Copy)]
 pub struct Sheet {
-    pub answer: Answer,
     pub numbers: [i64; 34],
     pub before: usize,
-}
-
-// A refusal, with zeros beside it.
-fn no_sheet(number: u8, place: usize) -> Sheet
-    ensures { result ≡ no_sheet number place }
-{
-    Sheet {
-        answer: refuse(number, place),
-        numbers: [0i64; 34],
-        before: 0,
-    }
 }
 
 // The position of the first name without a number.
@@ -49,22 +37,18 @@ fn numbers_found(found: &Found) -> [i64; LISTED]
 }
 
 // After the last line: the numbers, or the first name that is missing.
-fn finished_sheet(found: &Found, before: usize) -> Sheet
+fn finished_sheet(found: &Found, before: usize) -> Result<Sheet, Refusal>
     ensures { result ≡ finished_sheet found.now before }
 {
     if let Some(missing) = first_missing(found) {
-        return no_sheet(NAME_MISSING, missing + 1);
+        return Err(Rule::NameMissing.at(missing + 1));
     }
     let numbers = numbers_found(found);
-    Sheet {
-        answer: Answer::Done,
-        numbers,
-        before,
-    }
+    Ok(Sheet { numbers, before })
 }
 
 // The lines of a sheet that has `before` bytes before it.
-fn read_lines(lines: &[u8], before: usize) -> Sheet
+fn read_lines(lines: &[u8], before: usize) -> Result<Sheet, Refusal>
     ensures { result ≡ sheet_by (body_answer lines.now) (numbers_in (lines_in lines.now)) before }
 {
     let mut at: usize = 0;
@@ -73,15 +57,15 @@ fn read_lines(lines: &[u8], before: usize) -> Sheet
         let rest = &lines[at..];
         let end = find(rest, b'\n');
         if end == rest.len() {
-            return no_sheet(LINE, at);
+            return Err(Rule::Line.at(at));
         }
         match judge_line(&rest[..end], &found) {
             Ok((k, number)) => {
                 found[k] = Some(number);
                 at = at + end + 1;
             }
-            Err(number) => {
-                return no_sheet(number, at);
+            Err(rule) => {
+                return Err(rule.at(at));
             }
         }
     }
@@ -90,12 +74,12 @@ fn read_lines(lines: &[u8], before: usize) -> Sheet
 
 // The sheet at the end of the bytes; refused 10 at 0, then line by line 11, 12, 13, 14 at the line's first byte, counted from the sheet's
 // first byte, then 15 at the position of the first missing name.
-pub fn read_sheet(bytes: &[u8]) -> Sheet
+pub fn read_sheet(bytes: &[u8]) -> Result<Sheet, Refusal>
     ensures { result ≡ sheet_read bytes.now }
 {
     let start = sheet_start(bytes);
     if start == bytes.len() {
-        return no_sheet(TRAILER, 0);
+        return Err(Rule::Trailer.at(0));
     }
     let end = bytes.len() - 11;
     read_lines(&bytes[start..end], start)
@@ -105,7 +89,8 @@ pub fn read_sheet(bytes: &[u8]) -> Sheet
 pub fn before_sheet<'a>(bytes: &'a [u8]) -> &'a [u8]
     ensures { (result.ref_ptr ≡ bytes.entry.ref_ptr) × (result.now ≡ before_sheet bytes.now) }
 {
-    let sheet = read_sheet(bytes);
-    let before = sheet.before;
-    &bytes[..before]
+    match read_sheet(bytes) {
+        Ok(sheet) => &bytes[..sheet.before],
+        Err(_) => &bytes[..0],
+    }
 }

@@ -1,19 +1,9 @@
 // The walk over the sheets of a file, from the last to the first.
 ghost use Rattle.std.specs.Prelude.{◌≡◌, length};
-ghost use Rattle.sheets.specs.Sheet.{sheet_read};
-ghost use Rattle.sheets.specs.Walk.{step_by, step_at};
+ghost use Rattle.sheets.specs.Walk.{step_at, place_after};
 
-use super::sheet::read_sheet;
-use words::refusal::{Answer, LENGTH, refuse};
-
-// A step of the walk: that it is finished, or what was read of a sheet, toi's number first; and the place where it goes on.
-#[derive(Clone, Copy)]
-pub struct Step {
-    pub finished: bool,
-    pub answer: Answer,
-    pub numbers: [i64; 34],
-    pub place: usize,
-}
+use super::sheet::{Sheet, read_sheet};
+use words::refusal::{Refusal, Rule};
 
 // The lent bytes, and a place in them.
 #[derive(Clone, Copy)]
@@ -22,50 +12,18 @@ pub struct Walk<'a> {
     pub place: usize,
 }
 
-// The sheet at the end of the bytes before a place.
-fn step_back(bytes: &[u8], place: usize) -> Step
-    ensures { result ≡ step_by (sheet_read bytes.now) place }
-{
-    let sheet = read_sheet(bytes);
-    let answer = sheet.answer;
-    let numbers = sheet.numbers;
-    match answer {
-        Answer::Done => Step {
-            finished: false,
-            answer: Answer::Done,
-            numbers,
-            place: sheet.before,
-        },
-        Answer::Refused(r) => Step {
-            finished: false,
-            answer: refuse(r.number, r.place),
-            numbers,
-            place,
-        },
-    }
-}
-
-// A step from a place of the bytes: at place 0 it is finished; a place past the end is refused 1 at 0; a refusal stays at its place.
-pub(crate) fn step_at(bytes: &[u8], place: usize) -> Step
+// A step from a place of the bytes: none at place 0, where the walk is finished; else what is read of the sheet that ends there, toi's
+// number first, or its refusal; a place past the end is refused 1 at 0.
+pub(crate) fn step_at(bytes: &[u8], place: usize) -> Option<Result<Sheet, Refusal>>
     ensures { result ≡ step_at bytes.now place }
 {
     if bytes.len() < place {
-        return Step {
-            finished: false,
-            answer: refuse(LENGTH, 0),
-            numbers: [0i64; 34],
-            place,
-        };
+        return Some(Err(Rule::Length.at(0)));
     }
     if place == 0 {
-        return Step {
-            finished: true,
-            answer: Answer::Done,
-            numbers: [0i64; 34],
-            place: 0,
-        };
+        return None;
     }
-    step_back(&bytes[..place], place)
+    Some(read_sheet(&bytes[..place]))
 }
 
 impl<'a> Walk<'a> {
@@ -80,26 +38,28 @@ impl<'a> Walk<'a> {
     }
 
     // The step from the walk's place.
-    pub fn look(self) -> Step
+    pub fn look(self) -> Option<Result<Sheet, Refusal>>
         ensures { result ≡ step_at self.entry.bytes.now self.entry.place }
     {
         step_at(self.bytes, self.place)
     }
 
-    // The same, and the walk goes on to the step's place.
-    pub fn next<'s>(&'s mut self) -> Step
+    // The same, and the walk goes on: to the sheet's first byte; finished or on a refusal, its place stays.
+    pub fn next<'s>(&'s mut self) -> Option<Result<Sheet, Refusal>>
         ensures { (result ≡ step_at self.old.bytes.now self.old.place)
             × (self.new.bytes ≡ self.old.bytes)
-            × (self.new.place ≡ (step_at self.old.bytes.now self.old.place).place) }
+            × (self.new.place ≡ place_after (step_at self.old.bytes.now self.old.place) self.old.place) }
     {
         let step = step_at(self.bytes, self.place);
-        self.place = step.place;
+        if let Some(Ok(sheet)) = step {
+            self.place = sheet.before;
+        }
         step
     }
 }
 
 // The step of a walk from a place of the bytes, for callers that hold the two apart.
-pub fn walk_back(bytes: &[u8], place: usize) -> Step
+pub fn walk_back(bytes: &[u8], place: usize) -> Option<Result<Sheet, Refusal>>
     ensures { result ≡ step_at bytes.now place }
 {
     let walk = Walk { bytes, place };

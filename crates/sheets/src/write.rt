@@ -1,13 +1,12 @@
 // Writing a sheet.
 ghost use Rattle.std.specs.Prelude.{◌≡◌, [], ◌∷◌, ◌++◌, ◌+◌, ◌≤◌, length};
 ghost use Rattle.std.proofs.lemmas.List.Edits.{sets};
-ghost use Rattle.words.specs.Refusal.{refused_at};
-ghost use Rattle.words.specs.declared.refusal.Answer.TheVariants.{Done};
+ghost use Rattle.words.specs.Refusal.{Done};
 ghost use Rattle.sheets.specs.Text.{LINE_END, ended_by};
 ghost use Rattle.sheets.specs.List.{NUMBERS, sheet_names};
 ghost use Rattle.sheets.specs.Number.{decimal};
 ghost use Rattle.sheets.specs.Sheet.{line_text, line_texts};
-ghost use Rattle.sheets.specs.Write.{sheet_text, numbers_answer, written_by, sheet_written, written_bytes, text_written, text_bytes};
+ghost use Rattle.sheets.specs.Write.{sheet_text, numbers_answer, sheet_written, written_bytes, text_written, text_bytes};
 
 use super::list::{LISTED, NAMES, listed_field};
 use super::number::{put_decimal, put_number};
@@ -15,42 +14,22 @@ use super::text::put_bytes;
 use super::trailer::put_trailer;
 use fields::counts::in_range;
 use fields::subframe2::judge_counts;
-use words::refusal::{Answer, LENGTH, ROOM, TIME, refuse};
-
-// What writing a sheet gives: how many bytes it has, or a refusal and 0.
-#[derive(Clone, Copy)]
-pub struct Written {
-    pub answer: Answer,
-    pub size: usize,
-}
-
-fn not_written(number: u8, place: usize) -> Written
-    ensures { result ≡ written_by (refused_at number place) 0 }
-{
-    Written {
-        answer: refuse(number, place),
-        size: 0,
-    }
-}
+use words::refusal::{Refusal, Rule};
 
 // ---- any text
 
-// Writes a text from the first lent byte on; the bytes behind it stay. Refused 16 at 0 where the text has more bytes than are lent.
-pub fn write_text(text: &[u8], out: &mut [u8]) -> Written
+// Writes a text from the first lent byte on, and gives its length; the bytes behind it stay. Refused 16 at 0 where the text has more bytes than are lent.
+pub fn write_text(text: &[u8], out: &mut [u8]) -> Result<usize, Refusal>
     ensures { (result ≡ text_written text.now out.old) × (out.new ≡ text_bytes text.now out.old) }
 {
     if out.len() < text.len() {
-        return not_written(ROOM, 0);
+        return Err(Rule::Room.at(0));
     }
-    let size = put_bytes(out, 0, text);
-    Written {
-        answer: Answer::Done,
-        size,
-    }
+    Ok(put_bytes(out, 0, text))
 }
 
 // Writes the digits of a number in the same way.
-pub fn write_decimal(number: u64, out: &mut [u8]) -> Written
+pub fn write_decimal(number: u64, out: &mut [u8]) -> Result<usize, Refusal>
     ensures { (result ≡ text_written (decimal number) out.old) × (out.new ≡ text_bytes (decimal number) out.old) }
 {
     let mut digits = [0u8; 20];
@@ -98,18 +77,18 @@ fn put_sheet(out: &mut [u8], numbers: &[i64]) -> usize
 }
 
 // Judges the numbers: 3 for a time that is none, then 6.
-fn judge_numbers(numbers: &[i64]) -> Answer
+fn judge_numbers(numbers: &[i64]) -> Result<(), Refusal>
     requires { length numbers.now ≡ NUMBERS }
     ensures { result ≡ numbers_answer numbers.now }
 {
     if in_range(listed_field(0), numbers[0]) {
         return judge_counts(&numbers[1..]);
     }
-    refuse(TIME, 0)
+    Err(Rule::Time.at(0))
 }
 
 // Writes the sheet of numbers that are good, where there is room for it.
-fn write_good(numbers: &[i64], out: &mut [u8]) -> Written
+fn write_good(numbers: &[i64], out: &mut [u8]) -> Result<usize, Refusal>
     requires { (length numbers.now ≡ NUMBERS) × (numbers_answer numbers.now ≡ Done) }
     ensures { (result ≡ sheet_written numbers.now out.old)
         × (out.new ≡ written_bytes numbers.now out.old) }
@@ -119,18 +98,16 @@ fn write_good(numbers: &[i64], out: &mut [u8]) -> Written
     write_text(&sheet[..size], out)
 }
 
-// Writes the sheet of 34 numbers, toi's first, from the first lent byte on; the bytes behind it stay. Refused 1 at 0 for another number of
+// Writes the sheet of 34 numbers, toi's first, from the first lent byte on, and gives its length; the bytes behind it stay. Refused 1 at 0 for another number of
 // numbers, 3 at 0 for a time that is none, 6 at the first bit of the first field out of range, 16 at 0 where the sheet has more bytes than
 // are lent.
-pub fn write_sheet(numbers: &[i64], out: &mut [u8]) -> Written
+pub fn write_sheet(numbers: &[i64], out: &mut [u8]) -> Result<usize, Refusal>
     ensures { (result ≡ sheet_written numbers.now out.old)
         × (out.new ≡ written_bytes numbers.now out.old) }
 {
     if numbers.len() != LISTED {
-        return not_written(LENGTH, 0);
+        return Err(Rule::Length.at(0));
     }
-    match judge_numbers(numbers) {
-        Answer::Refused(r) => not_written(r.number, r.place),
-        Answer::Done => write_good(numbers, out),
-    }
+    judge_numbers(numbers)?;
+    write_good(numbers, out)
 }

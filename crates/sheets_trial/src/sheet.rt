@@ -29,7 +29,7 @@ fn zeros_behind(text: &[u8], bytes: &[u8], before: &[u8]) {
     );
     expected(
         b"  and before_sheet is what stands before it",
-        check::same(before_sheet(bytes), before),
+        before_sheet(bytes) == before,
     );
 }
 

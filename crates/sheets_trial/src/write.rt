@@ -1,85 +1,70 @@
 // The function of `sheets::write`.
-ghost use Rattle.std.specs.Prelude.{◌<◌};
+ghost use Rattle.std.specs.Prelude.{◌<◌, ◌≤◌};
 
 use sheets::sheet::read_sheet;
 use sheets::write::write_sheet;
-use show::{done, expected, is_done, refused, same_counts};
+use show::{done, expected, is_done, refused};
 use words::bits::copy;
-
-const LEAST: i64 = -9223372036854775808;
-
-const MOST: i64 = 9223372036854775807;
 
 // Over garbage, with bytes behind it.
 pub(crate) fn zero_sheet() {
     let numbers = [0i64; 34];
-    let behind = [7u8; 57];
     let mut out = [7u8; 300];
     let written = write_sheet(&numbers, &mut out);
     let answer = written.answer;
     done(b"write_sheet of zeros is done", answer);
     expected(b"  with 243 bytes", written.size == 243);
+    let (sheet, behind) = out.split_at(243);
     expected(
         b"  which begin with toi, wn and itow",
-        check::same(&out[0..18], b"toi=0\nwn=0\nitow=0\n"),
+        sheet.starts_with(b"toi=0\nwn=0\nitow=0\n"),
     );
     expected(
         b"  and end with isf and back 00232",
-        check::same(&out[226..243], b"isf=0\nback 00232\n"),
+        sheet.ends_with(b"isf=0\nback 00232\n"),
     );
     expected(
         b"  and the bytes behind stay",
-        check::same(&out[243..300], &behind),
+        behind.iter().all(|&byte| byte == 7),
     );
 }
 
 // Refused, and what was lent stays.
-fn stays(text: &[u8], numbers: &[i64], out: &mut [u8], before: &[u8], number: u8, place: usize) {
-    let written = write_sheet(numbers, out);
+fn stays<const N: usize>(text: &[u8], numbers: &[i64], number: u8, place: usize)
+    requires { N ≤ 300 }
+{
+    let mut out = [7u8; N];
+    let written = write_sheet(numbers, &mut out);
     let answer = written.answer;
     refused(text, answer, number, place);
     expected(
         b"  and nothing is written",
-        written.size == 0 && check::same(out, before),
+        written.size == 0 && out == [7; N],
     );
 }
 
 fn stay_300(text: &[u8], numbers: &[i64], number: u8, place: usize) {
-    let before = [7u8; 300];
-    let mut out = [7u8; 300];
-    stays(text, numbers, &mut out, &before, number, place);
+    stays::<300>(text, numbers, number, place);
 }
 
 pub(crate) fn rooms() {
     let numbers = [0i64; 34];
-    let before = [7u8; 243];
-    let mut none = [7u8; 0];
-    let mut short = [7u8; 242];
     let mut exact = [7u8; 243];
-    stays(
+    stays::<0>(
         b"write_sheet of zeros into nothing is refused 16 at 0",
         &numbers,
-        &mut none,
-        &before[0..0],
         16,
         0,
     );
-    stays(
-        b"  into 242 bytes too",
-        &numbers,
-        &mut short,
-        &before[0..242],
-        16,
-        0,
-    );
+    stays::<242>(b"  into 242 bytes too", &numbers, 16, 0);
     let written = write_sheet(&numbers, &mut exact);
     let answer = written.answer;
     done(b"  into 243 done", answer);
 }
 
 pub(crate) fn numbers_refused() {
-    let many = [MOST; 35];
-    let mut numbers = [LEAST; 34];
+    let many = [i64::MAX; 35];
+    let mut numbers = [i64::MIN; 34];
     stay_300(
         b"write_sheet of no numbers is refused 1 at 0",
         &many[0..0],
@@ -110,12 +95,12 @@ pub(crate) fn extreme() {
     with_number(
         b"  with the least of all for m0 6 at 141",
         11,
-        LEAST,
+        i64::MIN,
         6,
         141,
     );
     with_number(b"  with tgd -4097 6 at 527", 30, -4097, 6, 527);
-    with_number(b"  with the most for isf 6 at 566", 33, MOST, 6, 566);
+    with_number(b"  with the most for isf 6 at 566", 33, i64::MAX, 6, 566);
 }
 
 // Written, and read again.
@@ -128,7 +113,7 @@ fn is_read_again(text: &[u8], numbers: &[i64; 34]) {
     let answer = sheet.answer;
     let found = sheet.numbers;
     expected(text, written.size == 243 && is_done(answer));
-    expected(b"  with the same numbers", same_counts(&found, numbers));
+    expected(b"  with the same numbers", found == *numbers);
 }
 
 // One digit each, so that the sheet has 243 bytes.

@@ -4,14 +4,6 @@ use words::bits::{
     copy, first_not_bit, magnitude, put_number, put_signed, take_number, take_signed,
 };
 
-const LAST: usize = 18446744073709551615;
-
-const LARGEST: u64 = 18446744073709551615;
-
-const LEAST: i64 = -9223372036854775808;
-
-const MOST: i64 = 9223372036854775807;
-
 fn number(text: &[u8], bytes: &[u8], at: usize, width: usize, n: u64) {
     expected(text, take_number(bytes, at, width) == n);
 }
@@ -25,14 +17,14 @@ fn put_refused(text: &[u8], byte: u8, at: usize, width: usize, n: u64) {
     let mut row = [byte; 6];
     let before = [byte; 6];
     refused(text, put_number(&mut row, at, width, n), 1, 0);
-    expected(b"  and the bytes stay", check::same(&row, &before));
+    expected(b"  and the bytes stay", row == before);
 }
 
 fn put_signed_refused(text: &[u8], byte: u8, at: usize, width: usize, z: i64) {
     let mut row = [byte; 64];
     let before = [byte; 64];
     refused(text, put_signed(&mut row, at, width, z), 1, 0);
-    expected(b"  and the bytes stay", check::same(&row, &before));
+    expected(b"  and the bytes stay", row == before);
 }
 
 // Put into garbage and read back.
@@ -80,8 +72,8 @@ pub(crate) fn taking() {
     number(
         b"take_number at the last place of all is 0",
         &four,
-        LAST,
-        LAST,
+        usize::MAX,
+        usize::MAX,
         0,
     );
     number(
@@ -89,14 +81,14 @@ pub(crate) fn taking() {
         &ones,
         36,
         64,
-        LARGEST,
+        u64::MAX,
     );
     number(
         b"take_number of more takes the first 64",
         &ones,
         0,
         200,
-        LARGEST,
+        u64::MAX,
     );
     number(b"take_number of bytes 254 is 0", &garbage, 3, 50, 0);
 }
@@ -128,20 +120,20 @@ pub(crate) fn taking_signed() {
         &least,
         0,
         64,
-        LEAST,
+        i64::MIN,
     );
     signed(
         b"take_signed of more takes the first 64",
         &least,
         0,
-        LAST,
-        LEAST,
+        usize::MAX,
+        i64::MIN,
     );
     signed(b"take_signed past the end is 0", &ones, 100, 5, 0);
     signed(
         b"take_signed at the last place of all is 0",
         &ones,
-        LAST,
+        usize::MAX,
         5,
         0,
     );
@@ -153,7 +145,7 @@ pub(crate) fn putting() {
     put_refused(
         b"put_number at the last place of all is refused 1 at 0",
         1,
-        LAST,
+        usize::MAX,
         1,
         0,
     );
@@ -181,7 +173,7 @@ pub(crate) fn putting() {
     );
     expected(
         b"  and the bytes are 7 7 1 0 1 7",
-        check::same(&row, b"\x07\x07\x01\x00\x01\x07"),
+        row == [7, 7, 1, 0, 1, 7],
     );
 }
 
@@ -189,9 +181,9 @@ pub(crate) fn putting_wide() {
     let mut wide = [1u8; 80];
     done(
         b"put_number of the largest in 70 bits is done",
-        put_number(&mut wide, 5, 70, LARGEST),
+        put_number(&mut wide, 5, 70, u64::MAX),
     );
-    number(b"  and it is read back", &wide, 11, 64, LARGEST);
+    number(b"  and it is read back", &wide, 11, 64, u64::MAX);
     number(b"  with zeros before it", &wide, 5, 6, 0);
 }
 
@@ -216,8 +208,8 @@ pub(crate) fn putting_signed() {
     put_signed_refused(
         b"put_signed at the last place of all is refused 1 at 0",
         9,
-        LAST,
-        LAST,
+        usize::MAX,
+        usize::MAX,
         -1,
     );
     put_and_back(b"put_signed of -4096 in 13 bits is done", 3, 13, -4096);
@@ -228,7 +220,12 @@ pub(crate) fn putting_signed() {
         4294967295,
     );
     put_and_back(b"put_signed of 0 in one bit is done", 63, 1, 0);
-    put_and_back(b"put_signed of the least in 64 bits is done", 0, 64, LEAST);
+    put_and_back(
+        b"put_signed of the least in 64 bits is done",
+        0,
+        64,
+        i64::MIN,
+    );
 }
 
 fn of_magnitude(text: &[u8], z: i64, n: u64) {
@@ -242,12 +239,12 @@ pub(crate) fn magnitudes() {
     of_magnitude(b"magnitude of -4096 is 4095", -4096, 4095);
     of_magnitude(
         b"magnitude of the most is itself",
-        MOST,
+        i64::MAX,
         9223372036854775807,
     );
     of_magnitude(
         b"magnitude of the least is that too",
-        LEAST,
+        i64::MIN,
         9223372036854775807,
     );
 }
@@ -257,7 +254,7 @@ fn copy_refused(text: &[u8], from: &[u8]) {
     let before = [9u8; 4];
     let mut row = [9u8; 4];
     refused(text, copy(from, &mut row), 1, 0);
-    expected(b"  and the bytes stay", check::same(&row, &before));
+    expected(b"  and the bytes stay", row == before);
 }
 
 pub(crate) fn not_copying() {
@@ -271,10 +268,7 @@ pub(crate) fn copying() {
     let from = [1u8, 255, 2, 3];
     let mut row = [9u8; 4];
     done(b"copy of 4 bytes over 4 is done", copy(&from, &mut row));
-    expected(
-        b"  and the bytes are 1 255 2 3",
-        check::same(&row, b"\x01\xff\x02\x03"),
-    );
+    expected(b"  and the bytes are 1 255 2 3", row == [1, 255, 2, 3]);
 }
 
 pub(crate) fn copying_nothing() {

@@ -47,7 +47,7 @@ pub(crate) fn refusing() {
         1,
         0,
     );
-    expected(b"  and the bytes stay", check::same(&short, &before));
+    expected(b"  and the bytes stay", short == before);
 }
 
 pub(crate) fn putting() {

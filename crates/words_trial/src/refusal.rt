@@ -22,11 +22,11 @@ pub(crate) fn numbers() {
     ];
     expected(
         b"the first eight numbers are 1 to 8",
-        check::same(&low, b"\x01\x02\x03\x04\x05\x06\x07\x08"),
+        low == [1, 2, 3, 4, 5, 6, 7, 8],
     );
     expected(
         b"the other eight are 9 to 16",
-        check::same(&high, b"\x09\x0a\x0b\x0c\x0d\x0e\x0f\x10"),
+        high == [9, 10, 11, 12, 13, 14, 15, 16],
     );
 }
 
@@ -34,8 +34,8 @@ pub(crate) fn refusing() {
     refused(b"refuse(0, 0) is that refusal", refuse(0, 0), 0, 0);
     refused(
         b"refuse(255, last) is that refusal",
-        refuse(255, 18446744073709551615),
+        refuse(255, usize::MAX),
         255,
-        18446744073709551615,
+        usize::MAX,
     );
 }

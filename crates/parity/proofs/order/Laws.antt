@@ -1,4 +1,4 @@
--- What the proofs of `order` use: what a turn of a loop that writes symbols keeps, the symbols of two blocks, and what is judged.
+-- What the proofs of `order` use: what a turn of a loop that writes symbols keeps, and what is judged.
 -- Assumes nothing.
 use mathlib.Core.Path.{◌≡◌, sym, ap, ap₂, ◌∙◌}
 use mathlib.Core.Bool.{Bool, true}

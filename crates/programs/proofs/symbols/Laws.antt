@@ -1,4 +1,4 @@
--- Symbols and characters from an index on, as the loops walk them, and characters judged case by case.
+-- The first character that is no symbol, as it is searched for, and symbols and characters from an index on, as the loops walk them.
 -- Assumes nothing.
 use mathlib.Core.Path.{◌≡◌, refl, sym, ap, ◌∙◌}
 use mathlib.Core.Bool.{Bool, true, false, not, cond}
@@ -8,12 +8,9 @@ use native.Mathlib.Numerals.{add-one}
 use native.Mathlib.Omega.{arith}
 use lib.ListN.{length, get_or, drop, set, drop_of_length-le}
 use lib.Seq.{sets, drop-cons}
-use borrow.Author.Tests.{eq-eqb, ne_eqb, ltb-false}
-use Rattle.words.specs.Refusal.{LENGTH, NOT_A_BIT, refused_at, left_by}
-use Rattle.words.specs.declared.refusal.Answer.{Answer}
-use Rattle.words.specs.declared.refusal.Answer.TheVariants.{Done}
+use borrow.Author.Tests.{ltb-false}
 use Rattle.sheets.specs.Laws.Sets.{sets_front}
-use Rattle.programs.specs.Symbols.{ZERO, is_symbol, first_other, symbols_in, characters_of, symbols_answer}
+use Rattle.programs.specs.Symbols.{ZERO, is_symbol, first_other, symbols_in, characters_of}
 use Rattle.programs.specs.Laws.Symbols.{other_le}
 use Rattle.std.specs.List.{position, position_or_len}
 use Rattle.std.specs.Prelude.{Some, None, nat_lt, unwrap_or}
@@ -73,20 +70,3 @@ all_written l o e =
     sets_front l o (omega arith)
     ∙ ap (λ (r : List ℕ). l ++ r) (drop_of_length-le o none)
     ∙ append-nil l
-
--- ---- characters judged
-
-module _ (text lent : List ℕ) where
-  -- what is answered, and what is left in the lent bytes
-  abbrev pub Taken : Answer → List ℕ → Type 0
-  Taken x out = (x ≡ symbols_answer (length lent) text) × (out ≡ left_by (symbols_answer (length lent) text) (symbols_in text) lent)
-
-  pub wrong_length : (x : Answer) → (length text ≡ length lent → ⊥) → x ≡ refused_at LENGTH 0 → Taken x lent
-  wrong_length x e g = rw (ne_eqb (length text) (length lent) e) (g, refl)
-
-  module _ (same : length text ≡ length lent) where
-    pub wrong_character : (x : Answer) → (first_other text ≡ length text → ⊥) → x ≡ refused_at NOT_A_BIT (first_other text) → Taken x lent
-    wrong_character x e g = rw (eq-eqb (length text) (length lent) same, ne_eqb (first_other text) (length text) e) (g, refl)
-
-    pub all_taken : (out : List ℕ) → first_other text ≡ length text → out ≡ symbols_in text → Taken Done out
-    all_taken out e g = rw (eq-eqb (length text) (length lent) same, eq-eqb (first_other text) (length text) e) (refl, g)

@@ -7,8 +7,7 @@ use mathlib.Core.List.{List, [], ◌∷◌, ◌++◌}
 use Prim.Native.Nat.{ℕ, zero, suc, ◌+◌, ◌≤◌, ◌<◌}
 use Rattle.std.proofs.Math.ListN.{length, get_or}
 use Rattle.std.proofs.Math.Seq.{drop-length}
-use Rattle.words.specs.Refusal.{LINE, refused_at, done_if, in_turn}
-use Rattle.words.specs.declared.refusal.Answer.{Answer}
+use Rattle.words.specs.Refusal.{LINE, refused_at, done_if, in_turn, Answer}
 use Rattle.sheets.specs.Text.{LINE_END, ended_by}
 use Rattle.sheets.specs.Lines.{missing_answer, lines_answer}
 use Rattle.sheets.specs.Due.{line_place, DueAt}

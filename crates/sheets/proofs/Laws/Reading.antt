@@ -1,20 +1,18 @@
 -- A sheet that is read is one, and one that is one is read.
 -- Assumes nothing.
-use Rattle.std.specs.Prelude.{◌≡◌, ℕ, ◌≤◌, ℤ, take}
+use Rattle.std.specs.Prelude.{◌≡◌, ℕ, ◌≤◌, ℤ, take, Err, Ok}
 use Rattle.std.proofs.Math.Path.{refl, ap, ap₂}
 use Rattle.std.proofs.Common.{sym, ◌∙◌, subst, length-take-le}
 use mathlib.Core.List.{List, [], ◌++◌, append-nil}
 use Rattle.std.proofs.Math.ListN.{length}
-use Rattle.words.specs.Refusal.{TRAILER, done_if}
+use Rattle.words.specs.Refusal.{TRAILER, done_if, Answer, Done, answer_of}
 use Rattle.words.specs.Laws.Turns.{not_done, both_done, test_done}
-use Rattle.words.specs.declared.refusal.Answer.{Answer}
-use Rattle.words.specs.declared.refusal.Answer.TheVariants.{Done, Refused}
 use Rattle.fields.specs.Counts.{AllInRange}
 use Rattle.sheets.specs.Text.{LINE_END, index_of, after_last, ended_by}
 use Rattle.sheets.specs.List.{sheet_names, sheet_fields}
 use Rattle.sheets.specs.Trailer.{MOST_BYTES, has_trailer, start_of, lines_bytes, trailer_text}
 use Rattle.sheets.specs.Lines.{lines_in, numbers_in, body_answer}
-use Rattle.sheets.specs.Sheet.{line_texts, SameLines, IsSheet, sheet_answer, sheet_is, sheet_by, sheet_read}
+use Rattle.sheets.specs.Sheet.{line_texts, SameLines, IsSheet, sheet_answer, sheet_is, sheet_by, sheet_read, sheet_numbers, sheet_before}
 use Rattle.sheets.specs.Due.{EndsWith}
 use Rattle.sheets.specs.Laws.Text.{Without, parts_back, parts_of, rest_of}
 use Rattle.sheets.specs.Laws.Trailer.{trailer_start}
@@ -25,13 +23,12 @@ use Rattle.sheets.specs.Laws.Verdicts.{has_ends, ends_lines, judged_lines}
 use Rattle.sheets.proofs.Laws.Verdicts.{AllFine, all_fine_done, LinesView, nothing_due, something_due, lines_view, body_refused}
 use Rattle.sheets.specs.Laws.Meaning.{fine_range, fine_same}
 use Rattle.sheets.specs.Laws.Arranged.{arranged_without, arranged_fine, arranged_given, arranged_numbers}
-use Rattle.sheets.specs.declared.sheet.Sheet.{Sheet}
 
 -- ---- what is read
 
 by_done : (a : Answer) (ys : List ℤ) (b : ℕ) (zs : List ℤ) (n : ℕ) → sheet_by a ys b ≡ sheet_is zs n → (a ≡ Done) × (ys ≡ zs) × (b ≡ n)
-by_done Done ys b zs n e = (refl, ap (λ (x : Sheet). x.numbers) e, ap (λ (x : Sheet). x.before) e)
-by_done (Refused r) ys b zs n e = absurd (not_done r.number r.place (ap (λ (x : Sheet). x.answer) e))
+by_done (Ok tt) ys b zs n e = (refl, ap sheet_numbers e, ap sheet_before e)
+by_done (Err r) ys b zs n e = absurd (not_done r.number r.place (ap answer_of e))
 
 -- lines that are not refused are fine
 pub done_fine : (body : List ℕ) → body_answer body ≡ Done → AllFine body

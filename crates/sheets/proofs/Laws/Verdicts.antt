@@ -3,9 +3,7 @@
 use Rattle.std.specs.Prelude.{◌≡◌, refl, Bool, true, false, List, [], ◌∷◌, ◌≢◌, ℕ, suc, ◌+◌, ◌<◌, eqb, length, get_or, take}
 use Rattle.std.proofs.Common.{sym, ap, ◌∙◌, arith, eq-eqb, ne_eqb}
 use Rattle.std.proofs.Math.Path.{ap₂}
-use Rattle.words.specs.Refusal.{TRAILER, LINE, refused_at, done_if, in_turn}
-use Rattle.words.specs.declared.refusal.Answer.{Answer}
-use Rattle.words.specs.declared.refusal.Answer.TheVariants.{Done}
+use Rattle.words.specs.Refusal.{TRAILER, LINE, refused_at, done_if, in_turn, Answer, Done}
 use Rattle.frames.specs.Laws.Due.{Verdict, fine, due}
 use Rattle.sheets.specs.Text.{LINE_END, after_last}
 use Rattle.sheets.specs.Trailer.{has_trailer, start_of, lines_bytes}

@@ -14,16 +14,17 @@ use lib.Dec.{eqb, ltb}
 use lib.IntN.{ℤ, pos}
 use lib.ListN.{length, get_or, take, drop, replicate, set, length-drop, drop_of_length-le}
 use lib.Seq.{length-take-le, drop-drop}
-use Rattle.words.specs.Refusal.{LINE, NAME, NAME_AGAIN, NUMBER, NAME_MISSING, refused_at, done_if, in_turn}
-use Rattle.words.specs.declared.refusal.Answer.{Answer}
-use Rattle.words.specs.declared.refusal.Answer.TheVariants.{Done}
+use Rattle.words.specs.Refusal.{LINE, NAME, NAME_AGAIN, NUMBER, NAME_MISSING, refused_at, done_if, in_turn, Answer, Done}
 use Rattle.fields.specs.Table.{subframe2_rows}
 use Rattle.sheets.specs.Text.{LINE_END, index_of, parts_ended, after_last}
 use Rattle.sheets.specs.List.{NUMBERS, sheet_rows, sheet_names, position_in}
 use Rattle.sheets.specs.Number.{value_in, is_number_of}
 use Rattle.sheets.specs.Lines.{has_equals, name_in, behind_equals, is_listed, field_named, is_given, number_given, given_in, numbers_in, line_answer, first_missing, missing_answer, lines_answer, lines_in, body_answer}
-use Rattle.sheets.specs.Sheet.{no_sheet, sheet_is, sheet_by}
+use Rattle.sheets.specs.Sheet.{sheet_is, sheet_by}
 use Rattle.sheets.specs.Laws.Steps.{named_line, line_by, line_read, finished_sheet}
+use Rattle.words.specs.Refusal.{number}
+use Rattle.words.specs.declared.refusal.Rule.{Rule}
+use Rattle.words.specs.declared.refusal.Rule.TheVariants.{Line, Name, NameAgain}
 use Rattle.sheets.specs.Laws.Text.{index_le, parts_none, rest_none, parts_from, rest_cut}
 use Rattle.sheets.specs.Laws.List.{position_name}
 use Rattle.sheets.specs.Laws.Lines.{given_many, missing_le, found_in, found_many, found_at, found_set, missing_found, numbers_or}
@@ -31,14 +32,14 @@ use Rattle.sheets.specs.Laws.Lines.{given_many, missing_le, found_in, found_many
 -- ---- a line
 
 -- the answer to a line at a place, by what was read of it
-abbrev answer_by : ℕ → Result (ℕ × ℤ) ℕ → Answer
+abbrev answer_by : ℕ → Result (ℕ × ℤ) Rule → Answer
 answer_by place (Ok (k, z)) = Done
-answer_by place (Err n) = refused_at n place
+answer_by place (Err rule) = refused_at (number rule) place
 
 -- what is read of a line by four tests: it has its `=`, its name is listed, its name is given, its number is right
-abbrev read_by : Bool → Bool → Bool → Bool → ℕ → ℤ → Result (ℕ × ℤ) ℕ
+abbrev read_by : Bool → Bool → Bool → Bool → ℕ → ℤ → Result (ℕ × ℤ) Rule
 read_by equals listed again right k z =
-    cond equals (cond listed (cond again (Err NAME_AGAIN) (line_by k (cond right (Some z) None))) (Err NAME)) (Err LINE)
+    cond equals (cond listed (cond again (Err NameAgain) (line_by k (cond right (Some z) None))) (Err Name)) (Err Line)
 
 answer_tests : (equals listed given again right : Bool) (place k : ℕ) (z : ℤ) → (listed ≡ true → again ≡ given)
     → in_turn (done_if equals LINE place)
@@ -166,10 +167,10 @@ not_below n m h = go (dec_lt n m)
     go (yes k) = rw (lt-ltb n m k, ne_eqb n m (λ z. omega arith))
     go (no k) = rw (le-ltb n m (omega arith), eq-eqb n m (omega arith))
 
-missing_by : (missing : Bool) (number place : ℕ) (zs : List ℤ) (before : ℕ)
-    → cond missing (no_sheet number place) (sheet_is zs before) ≡ sheet_by (done_if (not missing) number place) zs before
-missing_by true number place zs before = refl
-missing_by false number place zs before = refl
+missing_by : (missing : Bool) (n place : ℕ) (zs : List ℤ) (before : ℕ)
+    → cond missing (refused_at n place) (sheet_is zs before) ≡ sheet_by (done_if (not missing) n place) zs before
+missing_by true n place zs before = refl
+missing_by false n place zs before = refl
 
 finished_answer : (lines : List (List ℕ)) (before : ℕ)
     → finished_sheet (found_in lines) before ≡ sheet_by (missing_answer lines) (numbers_in lines) before
@@ -178,8 +179,8 @@ finished_answer lines before =
     let n = first_missing (given_in lines) in
     let zs = map (λ (x : Option ℤ). unwrap_or x (pos 0)) (found_in lines) in
     ap (λ (m : ℕ).
-    let i = position_or_len is_none (found_in lines) in cond (ltb i m) (no_sheet NAME_MISSING (i + 1)) (sheet_is zs before)) (found_many lines)
-    ∙ ap₂ (λ (i : ℕ) (ys : List ℤ). cond (ltb i (length sheet_names)) (no_sheet NAME_MISSING (i + 1)) (sheet_is ys before))
+    let i = position_or_len is_none (found_in lines) in cond (ltb i m) (refused_at NAME_MISSING (i + 1)) (sheet_is zs before)) (found_many lines)
+    ∙ ap₂ (λ (i : ℕ) (ys : List ℤ). cond (ltb i (length sheet_names)) (refused_at NAME_MISSING (i + 1)) (sheet_is ys before))
     (missing_found lines) (numbers_or lines)
     ∙ missing_by (ltb n (length sheet_names)) NAME_MISSING (n + 1) (numbers_in lines) before
     ∙ ap (λ (t : Bool). sheet_by (done_if t NAME_MISSING (n + 1)) (numbers_in lines) before)
@@ -211,7 +212,7 @@ module _ {l : List ℕ} {at : ℕ} {found : List (Option ℤ)} (p : Progress l a
 
     module _ (h : at + n < length l) where
       -- what is read of it
-      module _ {x : Result (ℕ × ℤ) ℕ} (r : line_read (take n (take (length l - at) (drop at l))) found ≡ x) where
+      module _ {x : Result (ℕ × ℤ) Rule} (r : line_read (take n (take (length l - at) (drop at l))) found ≡ x) where
         line_there : line_read (take n (drop at l)) (found_in p.earlier) ≡ x
         line_there = ap₂ line_read (ap (take n) (sym (part_to_end l at))) (sym p.found_are) ∙ r
 
@@ -222,8 +223,8 @@ module _ {l : List ℕ} {at : ℕ} {found : List (Option ℤ)} (p : Progress l a
             ∙ ap (λ (a : Answer). in_turn a (answer_from (p.earlier ++ take n (drop at l) ∷ []) l (at + n + 1)))
             (line_answer_lem p.earlier (take n (drop at l)) at ∙ ap (answer_by at) line_there)
 
-      pub refused_line : {number : ℕ} → line_read (take n (take (length l - at) (drop at l))) found ≡ Err number
-          → body_answer l ≡ refused_at number at
+      pub refused_line : {rule : Rule} → line_read (take n (take (length l - at) (drop at l))) found ≡ Err rule
+          → body_answer l ≡ refused_at (number rule) at
       refused_line r = next_answer r
 
       module _ {k : ℕ} {z : ℤ} (r : line_read (take n (take (length l - at) (drop at l))) found ≡ Ok (k, z)) where

@@ -1,6 +1,6 @@
 -- Lines written one after another, and what writing a sheet gives, case by case as the code finds it.
 -- Assumes nothing.
-use Rattle.std.proofs.Common.{Bor}
+use Rattle.std.proofs.Common.{Bor, Result}
 use Rattle.std.proofs.lemmas.List.{length-map, get_or-map}
 use mathlib.Core.Path.{◌≡◌, refl, sym, ap, ap₂, ◌∙◌}
 use mathlib.Core.Bool.{Bool, true, false}
@@ -14,9 +14,7 @@ use lib.IntN.{ℤ, pos}
 use lib.ListN.{length, get_or, take, drop, set, length-append, length-drop, drop_of_length-le}
 use lib.Seq.{sets, drop-cons, take_all, take_at}
 use borrow.Author.Tests.{eq-eqb, ne_eqb, le-leb, lt-leb}
-use Rattle.words.specs.Refusal.{LENGTH, TIME, ROOM, refused_at, done_if, in_turn, left_by}
-use Rattle.words.specs.declared.refusal.Answer.{Answer}
-use Rattle.words.specs.declared.refusal.Answer.TheVariants.{Done}
+use Rattle.words.specs.Refusal.{LENGTH, TIME, ROOM, refused_at, done_if, in_turn, left_by, Answer, Done, given_by}
 use Rattle.fields.specs.Table.{no_field}
 use Rattle.fields.specs.Counts.{in_range}
 use Rattle.fields.specs.Subframe2.{COUNTS_2, counts_answer, counts_judged}
@@ -25,11 +23,12 @@ use Rattle.sheets.specs.List.{NUMBERS, sheet_names, sheet_fields}
 use Rattle.sheets.specs.Number.{numeral}
 use Rattle.sheets.specs.Trailer.{trailer_text}
 use Rattle.sheets.specs.Sheet.{line_text, line_texts}
-use Rattle.sheets.specs.Write.{sheet_text, numbers_answer, room_answer, write_answer, written_by, put_first, sheet_written, written_bytes, text_written, text_bytes}
+use Rattle.sheets.specs.Write.{sheet_text, numbers_answer, room_answer, write_answer, put_first, sheet_written, written_bytes, text_written, text_bytes}
 use Rattle.sheets.specs.Laws.Sets.{sets_append, sets_front}
 use Rattle.sheets.specs.Laws.List.{listed_many}
 use Rattle.sheets.proofs.list.Laws.{names_of}
-use Rattle.sheets.specs.declared.write.Written.{Written}
+use Rattle.words.specs.declared.refusal.Refusal.{Refusal}
+use Rattle.std.specs.Prelude.{Ok}
 
 -- ---- bytes put from the first place on
 
@@ -126,39 +125,39 @@ module _ (zs : List ℤ) where
 -- ---- what writing a text gives
 
 module _ (text out : List ℕ) where
-  by_room : (t : Bool) (r : Written) (left : List ℕ) → leb (length text) (length out) ≡ t → r ≡ written_by (done_if t ROOM 0) (length text)
+  by_room : (t : Bool) (r : Result ℕ Refusal) (left : List ℕ) → leb (length text) (length out) ≡ t → r ≡ given_by (done_if t ROOM 0) (length text)
       → left ≡ left_by (done_if t ROOM 0) (put_first text out) out → (r ≡ text_written text out) × (left ≡ text_bytes text out)
   unfolding text_written text_bytes
   by_room t r left e f g = (
-    f ∙ ap (λ (x : Bool). written_by (done_if x ROOM 0) (length text)) (sym e),
+    f ∙ ap (λ (x : Bool). given_by (done_if x ROOM 0) (length text)) (sym e),
     g ∙ ap (λ (x : Bool). left_by (done_if x ROOM 0) (put_first text out) out) (sym e),
   )
 
   -- fewer bytes lent than the text has
-  pub no_room : (r : Written) → length out < length text → r ≡ written_by (refused_at ROOM 0) 0
+  pub no_room : (r : Result ℕ Refusal) → length out < length text → r ≡ refused_at ROOM 0
       → (r ≡ text_written text out) × (out ≡ text_bytes text out)
   no_room r h e = by_room false r out (lt-leb (length text) (length out) h) e refl
 
   -- enough bytes
   pub room : (left : List ℕ) (size : ℕ) → size ≡ 0 + length text → length text ≤ length out → left ≡ sets out 0 text
-      → (record { answer = Done; size = size } ≡ text_written text out) × (left ≡ text_bytes text out)
+      → (◌≡◌ {A = Result ℕ Refusal} (Ok size) (text_written text out)) × (left ≡ text_bytes text out)
   room left size s h e =
-      by_room true (record { answer = Done; size = size }) left (le-leb (length text) (length out) h)
-      (ap (λ (n : ℕ). written_by Done n) (s ∙ zero-add (length text))) (e ∙ sets_front text out h)
+      by_room true (Ok size) left (le-leb (length text) (length out) h)
+      (ap (λ (n : ℕ). Ok n) (s ∙ zero-add (length text))) (e ∙ sets_front text out h)
 
 -- ---- what writing a sheet gives
 
 module _ (zs : List ℤ) (out : List ℕ) where
-  by_answer : (a : Answer) (r : Written) (left : List ℕ) → write_answer zs out ≡ a → r ≡ written_by a (length (sheet_text zs))
+  by_answer : (a : Answer) (r : Result ℕ Refusal) (left : List ℕ) → write_answer zs out ≡ a → r ≡ given_by a (length (sheet_text zs))
       → left ≡ left_by a (put_first (sheet_text zs) out) out → (r ≡ sheet_written zs out) × (left ≡ written_bytes zs out)
   unfolding sheet_written written_bytes
   by_answer a r left e f g = (
-    f ∙ ap (λ (x : Answer). written_by x (length (sheet_text zs))) (sym e),
+    f ∙ ap (λ (x : Answer). given_by x (length (sheet_text zs))) (sym e),
     g ∙ ap (λ (x : Answer). left_by x (put_first (sheet_text zs) out) out) (sym e),
   )
 
   -- another number of numbers
-  pub wrong_length : (r : Written) → (length zs ≡ NUMBERS → ⊥) → r ≡ written_by (refused_at LENGTH 0) 0
+  pub wrong_length : (r : Result ℕ Refusal) → (length zs ≡ NUMBERS → ⊥) → r ≡ refused_at LENGTH 0
       → (r ≡ sheet_written zs out) × (out ≡ written_bytes zs out)
   wrong_length r n e =
       by_answer (refused_at LENGTH 0) r out
@@ -171,12 +170,12 @@ module _ (zs : List ℤ) (out : List ℕ) where
         ap₂ (λ (t : Bool) (x : Answer). in_turn (done_if t LENGTH 0) (in_turn x (room_answer (sheet_text zs) out))) (eq-eqb (length zs) NUMBERS n) e
 
     -- a number out of its range
-    pub not_good : (r : Written) (number place : ℕ) → numbers_answer zs ≡ refused_at number place → r ≡ written_by (refused_at number place) 0
+    pub not_good : (r : Result ℕ Refusal) (number place : ℕ) → numbers_answer zs ≡ refused_at number place → r ≡ refused_at number place
         → (r ≡ sheet_written zs out) × (out ≡ written_bytes zs out)
     not_good r number place e f = by_answer (refused_at number place) r out (answer_is (refused_at number place) e) f refl
 
     -- the sheet of good numbers is written as a text
-    pub good_written : (r : Written) (left : List ℕ) → numbers_answer zs ≡ Done → r ≡ text_written (sheet_text zs) out → left ≡ text_bytes (sheet_text zs) out
+    pub good_written : (r : Result ℕ Refusal) (left : List ℕ) → numbers_answer zs ≡ Done → r ≡ text_written (sheet_text zs) out → left ≡ text_bytes (sheet_text zs) out
         → (r ≡ sheet_written zs out) × (left ≡ written_bytes zs out)
     unfolding text_written text_bytes
     good_written r left good e f = by_answer (room_answer (sheet_text zs) out) r left (answer_is Done good) e f

@@ -7,10 +7,8 @@ use Rattle.std.proofs.Math.Bool.{and-eq-true_iff}
 use mathlib.Core.List.{List, [], ◌∷◌, ◌++◌}
 use Prim.Native.Nat.{ℕ, zero, suc, ◌+◌, ◌≤◌, ◌<◌}
 use Rattle.std.proofs.Math.ListN.{length, get_or}
-use Rattle.words.specs.Refusal.{LINE, NAME, NAME_AGAIN, NUMBER, refused_at, done_if, in_turn}
+use Rattle.words.specs.Refusal.{LINE, NAME, NAME_AGAIN, NUMBER, refused_at, done_if, in_turn, Answer, Done}
 use Rattle.words.specs.Laws.Turns.{not_done}
-use Rattle.words.specs.declared.refusal.Answer.{Answer}
-use Rattle.words.specs.declared.refusal.Answer.TheVariants.{Done}
 use Rattle.tables.specs.Laws.Cases.{before_or_not}
 use Rattle.fields.specs.Table.{no_field}
 use Rattle.fields.specs.Counts.{in_range}

@@ -4,10 +4,9 @@ use Rattle.std.specs.Prelude.{◌≡◌, refl, Bool, true, false, ◌&&◌, List
 use Rattle.std.proofs.Common.{ap, ◌∙◌, pow-suc, arith, length-append, eqb-true, leb-true, ltb-true, ltb-false}
 use Rattle.std.proofs.Math.Bool.{and-eq-true_iff}
 use Rattle.std.specs.Int.Signed.{mag}
-use Rattle.words.specs.Refusal.{TIME, FIELD_2, done_if, in_turn}
+use Rattle.words.specs.Refusal.{TIME, FIELD_2, done_if, in_turn, Done}
 use Rattle.words.specs.Time.{LAST_TOI}
 use Rattle.words.specs.Laws.Turns.{both_done, test_done}
-use Rattle.words.specs.declared.refusal.Answer.TheVariants.{Done}
 use Rattle.fields.specs.Table.{NamedField, at_most, fields_in, subframe2_rows}
 use Rattle.fields.specs.Counts.{in_range, AllInRange, first_out}
 use Rattle.fields.specs.CountsBack.{none_out, in_range_none_out}

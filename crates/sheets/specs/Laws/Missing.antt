@@ -5,8 +5,7 @@ use Rattle.std.proofs.Common.{sym, ◌∙◌, inl, inr, arith, eq-eqb, ne_eqb}
 use Rattle.std.proofs.Math.Path.{ap}
 use Rattle.std.proofs.Math.Bool.{false}
 use Rattle.std.proofs.Math.ListN.{length, get_or-eq_default}
-use Rattle.words.specs.Refusal.{NAME_MISSING, refused_at, done_if}
-use Rattle.words.specs.declared.refusal.Answer.TheVariants.{Done}
+use Rattle.words.specs.Refusal.{NAME_MISSING, refused_at, done_if, Done}
 use Rattle.tables.specs.Laws.Cases.{before_or_not}
 use Rattle.sheets.specs.List.{sheet_names}
 use Rattle.sheets.specs.Lines.{given_in, first_missing, missing_answer}

@@ -1,21 +1,19 @@
 -- The sheet at the end of bytes: whether there is one, where it begins, and what is read of it.
 -- Assumes nothing.
-use Rattle.std.specs.Prelude.{◌≡◌, Bool, List, ℕ, ◌-◌, ◌≤◌, ℤ}
+use Rattle.std.specs.Prelude.{◌≡◌, Bool, List, ℕ, ◌-◌, ◌≤◌, ℤ, Err, Ok}
 use Rattle.std.proofs.Math.Path.{refl}
 use Rattle.std.proofs.Math.Bool.{true, false, cond}
 use native.Mathlib.Omega.{arith}
 use Rattle.std.proofs.Math.ListN.{length}
-use Rattle.words.specs.Refusal.{TRAILER}
-use Rattle.words.specs.declared.refusal.Answer.{Answer}
-use Rattle.words.specs.declared.refusal.Answer.TheVariants.{Done, Refused}
+use Rattle.words.specs.Refusal.{TRAILER, Answer, refused_at}
 use Rattle.sheets.specs.Trailer.{trailer_place, trailer_count, has_trailer, start_of, lines_bytes}
 use Rattle.sheets.specs.Lines.{lines_in, numbers_in, body_answer}
-use Rattle.sheets.specs.Sheet.{sheet_answer, no_sheet, sheet_by, sheet_read}
+use Rattle.sheets.specs.Sheet.{sheet_answer, sheet_by, sheet_read, sheet_before}
 use Rattle.sheets.specs.Laws.Trailer.{start_before}
 
-by_within : (a : Answer) (zs : List ℤ) (before n : ℕ) → before ≤ n → (sheet_by a zs before).before ≤ n
-by_within Done zs before n h = h
-by_within (Refused r) zs before n h = omega arith
+by_within : (a : Answer) (zs : List ℤ) (before n : ℕ) → before ≤ n → sheet_before (sheet_by a zs before) ≤ n
+by_within (Ok tt) zs before n h = h
+by_within (Err r) zs before n h = omega arith
 
 module _ (s : List ℕ) where
   -- bytes end with no trailer where a sheet would begin at their end
@@ -43,7 +41,7 @@ module _ (s : List ℕ) where
       go false = omega arith
 
   -- without a trailer there is no sheet, and else what is read of its lines
-  pub read_none : has_trailer s ≡ false → sheet_read s ≡ no_sheet TRAILER 0
+  pub read_none : has_trailer s ≡ false → sheet_read s ≡ refused_at TRAILER 0
   unfolding sheet_read
   read_none e = rw e
 
@@ -52,6 +50,6 @@ module _ (s : List ℕ) where
   read_there e = rw e
 
   -- what stands before a sheet is within the bytes
-  pub before_within : (sheet_read s).before ≤ length s
+  pub before_within : sheet_before (sheet_read s) ≤ length s
   unfolding sheet_read
   before_within = by_within (sheet_answer s) (numbers_in (lines_in (lines_bytes s))) (start_of s) (length s) start_within

@@ -2,7 +2,10 @@
 -- Assumes nothing.
 use Rattle.std.specs.Prelude.{◌≡◌, refl, Option, Some, None, is_some, is_none, unwrap_or, map, Result, Ok, Err, Bool, true, false, cond, not, ◌&&◌, List, ℕ, ◌+◌, min, eqb, ltb, ℤ, pos, neg_ℤ, length, get_or}
 use Rattle.std.specs.List.{position_or_len}
-use Rattle.words.specs.Refusal.{LINE, NAME, NAME_AGAIN, NUMBER, NAME_MISSING}
+use Rattle.words.specs.Refusal.{NAME_MISSING, refused_at}
+use Rattle.words.specs.declared.refusal.Refusal.{Refusal}
+use Rattle.words.specs.declared.refusal.Rule.{Rule}
+use Rattle.words.specs.declared.refusal.Rule.TheVariants.{Line, Name, NameAgain, Number}
 use Rattle.fields.specs.Table.{no_field}
 use Rattle.fields.specs.Counts.{in_range}
 use Rattle.fields.specs.declared.table.Field.{Field}
@@ -10,7 +13,7 @@ use Rattle.sheets.specs.List.{sheet_names, sheet_fields, position_in}
 use Rattle.sheets.specs.Number.{all_digits, decimal_in, is_plain, is_number_of, value_in}
 use Rattle.sheets.specs.Trailer.{is_trailer, digits_in}
 use Rattle.sheets.specs.Lines.{has_equals, name_in, behind_equals, is_listed}
-use Rattle.sheets.specs.Sheet.{no_sheet, sheet_is}
+use Rattle.sheets.specs.Sheet.{sheet_is}
 use Rattle.sheets.specs.declared.sheet.Sheet.{Sheet}
 
 -- ---- a place where the test holds, and none where it doesn't
@@ -75,27 +78,27 @@ count_read trailer = digits_by (is_trailer trailer) (digits_in trailer)
 abbrev pub listed_at : List ℕ → Option ℕ
 listed_at name = cond (is_listed name) (Some (position_in name sheet_names)) None
 
-abbrev pub line_by : ℕ → Option ℤ → Result (ℕ × ℤ) ℕ
+abbrev pub line_by : ℕ → Option ℤ → Result (ℕ × ℤ) Rule
 line_by k (Some z) = Ok (k, z)
-line_by k None = Err NUMBER
+line_by k None = Err Number
 
 -- a line of the name at position k, where these numbers are found
-unfoldable pub named_line : ℕ → List ℕ → List (Option ℤ) → Result (ℕ × ℤ) ℕ
+unfoldable pub named_line : ℕ → List ℕ → List (Option ℤ) → Result (ℕ × ℤ) Rule
 named_line k text found =
     cond (ltb k (length sheet_names))
-    (cond (is_some (get_or found k None)) (Err NAME_AGAIN) (line_by k (number_read (get_or sheet_fields k no_field) text)))
-    (Err NAME)
+    (cond (is_some (get_or found k None)) (Err NameAgain) (line_by k (number_read (get_or sheet_fields k no_field) text)))
+    (Err Name)
 
 -- a line without its end
-unfoldable pub line_read : List ℕ → List (Option ℤ) → Result (ℕ × ℤ) ℕ
+unfoldable pub line_read : List ℕ → List (Option ℤ) → Result (ℕ × ℤ) Rule
 line_read line found =
-    cond (has_equals line) (named_line (position_in (name_in line) sheet_names) (behind_equals line) found) (Err LINE)
+    cond (has_equals line) (named_line (position_in (name_in line) sheet_names) (behind_equals line) found) (Err Line)
 
 -- ---- the sheet
 
 -- after the last line
-unfoldable pub finished_sheet : List (Option ℤ) → ℕ → Sheet
+unfoldable pub finished_sheet : List (Option ℤ) → ℕ → Result Sheet Refusal
 finished_sheet found before =
     cond (ltb (position_or_len is_none found) (length found))
-    (no_sheet NAME_MISSING (position_or_len is_none found + 1))
+    (refused_at NAME_MISSING (position_or_len is_none found + 1))
     (sheet_is (map (λ (number : Option ℤ). unwrap_or number (pos 0)) found) before)

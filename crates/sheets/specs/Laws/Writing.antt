@@ -3,9 +3,7 @@
 use Rattle.std.specs.Prelude.{◌≡◌, refl, Bool, true, false, List, ◌≢◌, ◌⊎◌, ℕ, ◌≤◌, ◌<◌, eqb, leb, ℤ, pos, length, get_or, drop}
 use Rattle.std.proofs.Common.{sym, ap, ap₂, ◌∙◌, inl, inr, arith, eq-eqb, ne_eqb, le-leb}
 use Rattle.std.proofs.lemmas.Bool.{lt-leb}
-use Rattle.words.specs.Refusal.{LENGTH, TIME, FIELD_2, ROOM, refused_at, done_if, in_turn}
-use Rattle.words.specs.declared.refusal.Answer.{Answer}
-use Rattle.words.specs.declared.refusal.Answer.TheVariants.{Done}
+use Rattle.words.specs.Refusal.{LENGTH, TIME, FIELD_2, ROOM, refused_at, done_if, in_turn, Answer, Done}
 use Rattle.tables.specs.Laws.Cases.{same_or_not, before_or_not}
 use Rattle.fields.specs.Table.{no_field, fields_in}
 use Rattle.fields.specs.Counts.{in_range, first_out}

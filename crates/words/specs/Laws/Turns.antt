@@ -2,7 +2,7 @@
 -- Assumes nothing.
 use Rattle.std.specs.Prelude.{◌≡◌, refl, Bool, true, false, ℕ, Result, Ok, Err}
 use Rattle.std.proofs.Common.{sym, ap, arith}
-use Rattle.words.specs.Refusal.{Answer, Done, answer_of, given_by, refused_at, done_if, in_turn, judged, number_of}
+use Rattle.words.specs.Refusal.{Answer, Done, answer_of, given_by, refusal_at, refused_at, done_if, in_turn, judged, number_of}
 use Rattle.words.specs.declared.refusal.Refusal.{Refusal}
 use Rattle.std.specs.Result.{result_unwrap_or}
 
@@ -14,6 +14,10 @@ pub data Answered (a : Answer) : Type 0 where
 pub answered : (a : Answer) → Answered a
 answered (Ok tt) = done refl
 answered (Err r) = refused r.number r.place refl
+
+-- a refusal is its number and place
+pub refusal_is : (r : Refusal) (n p : ℕ) → r.number ≡ n → r.place ≡ p → r ≡ refusal_at n p
+refusal_is r n p e f = λ i. record { number = e i; place = f i }
 
 -- no refusal is done
 pub not_done : (n p : ℕ) → refused_at n p ≡ Done → ⊥

@@ -4,7 +4,8 @@ use Rattle.std.proofs.lemmas.Grind.{common_steps}
 use mir.Facts.{to_z-of_z}
 use Rattle.std.specs.Option.{ok_or}
 use mir.Syntax.{w64}
-use Rattle.words.specs.Refusal.{NUMBER}
+use Rattle.words.specs.declared.refusal.Rule.{Rule}
+use Rattle.words.specs.declared.refusal.Rule.TheVariants.{Number}
 use Rattle.fields.specs.Table.{no_field}
 use Rattle.fields.specs.declared.table.Field.{Field}
 use Rattle.sheets.specs.List.{NUMBERS, sheet_names, sheet_fields}
@@ -26,12 +27,12 @@ unfolding named_line
 new_name k text found f r h new e i =
     rw (lt-ltb k (length sheet_names) (omega (arith, listed_many)), new) (ap (line_by k) (i ∙ ap (λ (x : Field). number_read x text) e))
 
-says : (k : ℕ) (r : Option ℤ) (z : ℤ) → ok_or r NUMBER ≡ Ok z → Ok (k, z) ≡ line_by k r
+says : (k : ℕ) (r : Option ℤ) (z : ℤ) → ok_or r Number ≡ Ok z → Ok (k, z) ≡ line_by k r
 says k None z e = cc
 says k (Some y) z e = let f : y ≡ z = cc in cc
 
-says_none : (k n : ℕ) (r : Option ℤ) → ok_or r NUMBER ≡ Err n → Err n ≡ line_by k r
-says_none k n None e = let f : n ≡ NUMBER = cc in cc
+says_none : (k : ℕ) (n : Rule) (r : Option ℤ) → ok_or r Number ≡ Err n → Err n ≡ line_by k r
+says_none k n None e = let f : n ≡ Number = cc in cc
 says_none k n (Some y) e = cc
 
 pub returns-in_err-number : goal.returns-in_err-number

@@ -13,4 +13,7 @@ returns-in_default c =
     let f = c.args.field in
     let text = c.args.text.now in
     c.read_positive.ensures
-    ∙ elim c.in_default.branch [ in_default-via-then-text-lt1 w ↦ number_positive f text (λ e. omega (arith, get_or-eq_default text 0 {n = 0} (grind arith))) | in_default-via-else-text-lt1+in_default-1 w ↦ number_positive f text (λ e. grind arith) ]
+    ∙ elim c.in_default.branch [
+      | in_default-via-then-text-lt1 w ↦ number_positive f text (λ e. omega (arith, get_or-eq_default text 0 {n = 0} (grind arith)))
+      | in_default-via-else-text-lt1+in_default-1 w ↦ number_positive f text (λ e. grind arith)
+    ]

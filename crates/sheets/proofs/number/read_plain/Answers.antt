@@ -16,5 +16,8 @@ pub returns-in_default : goal.returns-in_default
 returns-in_default c =
     let text = c.args.text.now in
     let plain : is_plain text ≡ all_digits text =
-    elim c.in_default.branch [ in_default-via-then-text-lt2 w ↦ plain_one text (grind arith) | in_default-via-else-text-lt2+in_default-1 w ↦ plain_first text (grind arith) (λ e. grind arith) ] in
+    elim c.in_default.branch [
+      | in_default-via-then-text-lt2 w ↦ plain_one text (grind arith)
+      | in_default-via-else-text-lt2+in_default-1 w ↦ plain_first text (grind arith) (λ e. grind arith)
+    ] in
     c.read_digits.ensures ∙ ap (λ (t : Bool). digits_by t text) (sym plain)

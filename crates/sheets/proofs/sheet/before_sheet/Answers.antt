@@ -1,15 +1,12 @@
 -- `sheets::sheet::before_sheet` meets its contract. Assumes nothing.
-use mathlib.Core.Path.{refl, ap}
+use mathlib.Core.Path.{sym, ap, ◌∙◌}
 use native.Mathlib.Omega.{arith}
-use lib.ListN.{take, length-take}
+use lib.ListN.{length-take}
+use Rattle.sheets.specs.Sheet.{sheet_before}
 use Rattle.sheets.specs.Laws.Sheet.{before_within}
-use Rattle.sheets.specs.declared.sheet.Sheet.{Sheet}
 use Rattle.sheets.proofs.sheet.before_sheet.Goals as goal
 
 pub slice_bounds-result-end : goal.slice_bounds-result-end
 slice_bounds-result-end c =
-    let e = ap (λ (sheet : Sheet). sheet.before) c.read_sheet-sheet.ensures in
+    let e = ap sheet_before (sym c.read_sheet.ensures ∙ c.in-Ok.is) in
     simp length-take (omega (arith, e, before_within c.args.bytes.now))
-
-pub returns : goal.returns
-returns c = (refl, ap (λ (sheet : Sheet). take sheet.before c.args.bytes.now) c.read_sheet-sheet.ensures)

@@ -6,13 +6,14 @@ use Prim.Native.Nat.{◌+◌, ◌<◌}
 use lib.ListN.{length, length-take, length-drop}
 use mir.Facts.{to_z-of_z}
 use mir.Syntax.{w64}
-use Rattle.words.specs.declared.refusal.Answer.{Answer}
 use Rattle.sheets.specs.List.{NUMBERS}
 use Rattle.sheets.specs.Lines.{numbers_in, lines_in}
 use Rattle.sheets.specs.Sheet.{sheet_by}
 use Rattle.sheets.specs.Laws.List.{listed_many}
 use Rattle.sheets.proofs.sheet.Laws.{nothing_read, all_read, within, without_end, refused_line, given_listed, given_line}
 use Rattle.sheets.proofs.sheet.read_lines.Goals as goal
+use Rattle.words.specs.Refusal.{Answer}
+use Rattle.std.specs.Prelude.{Err}
 
 pub loop-at-init : goal.loop-at-init
 loop-at-init c = nothing_read c.args.lines.now
@@ -20,7 +21,7 @@ loop-at-init c = nothing_read c.args.lines.now
 pub returns-then-end-rest : goal.returns-then-end-rest
 returns-then-end-rest c =
     let a = c.args in
-    c.no_sheet.ensures
+    ap Err c.at.ensures
     ∙ ap (λ (x : Answer). sheet_by x (numbers_in (lines_in a.lines.now)) a.before)
     (sym (without_end c.loop-at.invariant c.find-end.ensures (omega arith) (omega arith)))
 
@@ -65,7 +66,7 @@ loop-at-preserved c =
     (given_line c.loop-at.invariant c.find-end.ensures (ends_at2 c) e)
 
 -- the line's end is within the bytes
-ends_at3 : (c : goal.After-no_sheet-in-Err)
+ends_at3 : (c : goal.After-at-in-Err)
     → c.loop-at.at + c.find-end.result < length c.args.lines.now
 ends_at3 c = omega (arith, within c.loop-at.invariant c.find-end.ensures (omega arith))
 
@@ -73,7 +74,7 @@ pub returns-in-Err : goal.returns-in-Err
 returns-in-Err c =
     let a = c.args in
     let e = sym c.judge_line.ensures ∙ c.in-Err.is in
-    c.no_sheet-in-Err.ensures
+    ap Err c.at-in-Err.ensures
     ∙ ap (λ (x : Answer). sheet_by x (numbers_in (lines_in a.lines.now)) a.before)
     (sym (refused_line c.loop-at.invariant c.find-end.ensures (ends_at3 c) e))
 

@@ -4,6 +4,7 @@ use mathlib.Core.Bool.{true}
 use native.Mathlib.Omega.{arith}
 use Prim.Native.Nat.{ℕ, ◌+◌, ◌-◌, ◌≤◌}
 use lib.ListN.{length, take, drop}
+use Rattle.std.specs.Prelude.{Err}
 use Rattle.sheets.specs.Trailer.{TRAILER_BYTES, trailer_place, has_trailer, lines_bytes}
 use Rattle.sheets.specs.Lines.{lines_in, numbers_in, body_answer}
 use Rattle.sheets.specs.Sheet.{sheet_by}
@@ -14,7 +15,7 @@ use Rattle.sheets.proofs.sheet.read_sheet.Goals as goal
 pub returns-then-start-bytes : goal.returns-then-start-bytes
 returns-then-start-bytes c =
     let s = c.args.bytes.now in
-    c.no_sheet.ensures ∙ sym (read_none s (trailer_none s (sym c.sheet_start-start.ensures ∙ c.if-start-bytes.true)))
+    ap Err c.at.ensures ∙ sym (read_none s (trailer_none s (sym c.sheet_start-start.ensures ∙ c.if-start-bytes.true)))
 
 -- there is a trailer where the sheet does not begin at the end, and the sheet begins before it
 there : (c : goal.Else-start-bytes) → has_trailer c.args.bytes.now ≡ true

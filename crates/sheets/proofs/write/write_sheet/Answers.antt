@@ -1,19 +1,19 @@
 -- `sheets::write::write_sheet` meets its contract. Assumes nothing.
-use mathlib.Core.Path.{sym, ◌∙◌}
+use mathlib.Core.Path.{◌≡◌, sym, ap, ◌∙◌}
+use Rattle.std.proofs.Common.{rules}
+use Rattle.std.specs.Prelude.{Err}
 use Rattle.sheets.proofs.write.Laws.{wrong_length, not_good}
 use Rattle.sheets.proofs.write.write_sheet.Goals as goal
 
 pub returns-then-numbers-ne-LISTED : goal.returns-then-numbers-ne-LISTED
 returns-then-numbers-ne-LISTED c =
     let a = c.args in
-    wrong_length a.numbers.now a.out.now c.not_written.result c.if-numbers-ne-LISTED.true c.not_written.ensures
+    wrong_length a.numbers.now a.out.now _ c.if-numbers-ne-LISTED.true (ap Err c.at.ensures)
 
-pub write_good-requires : goal.write_good-requires
-write_good-requires c = (c.if-numbers-ne-LISTED.false, sym c.judge_numbers.ensures ∙ c.in-Done.is)
-
-pub returns-in-Refused : goal.returns-in-Refused
-returns-in-Refused c =
+pub returns-in_err-judge_numbers : goal.returns-in_err-judge_numbers
+returns-in_err-judge_numbers c =
     let a = c.args in
-    let r = c.in-Refused.r in
-    not_good a.numbers.now a.out.now c.if-numbers-ne-LISTED.false c.not_written-in-Refused.result r.number r.place
-    (sym c.judge_numbers.ensures ∙ c.in-Refused.is) c.not_written-in-Refused.ensures
+    let r = c.in_err-judge_numbers.field-0.0 in
+    let refused : c.from_residual.result ≡ Err r = search rules in
+    not_good a.numbers.now a.out.now c.if-numbers-ne-LISTED.false _ r.number r.place
+    (sym c.judge_numbers.ensures ∙ c.in_err-judge_numbers.was) refused

@@ -1,6 +1,0 @@
--- `compare::bytes::all_are` is safe and ends. The measure is what is left of the bytes. Assumes nothing.
-use Rattle.std.proofs.Common.{length, ◌-◌}
-use Rattle.compare.proofs.bytes.all_are.Given as goal
-
-abbrev pub decreases-loop-i : goal.decreases-loop-i
-decreases-loop-i l = length l.bytes - l.i
