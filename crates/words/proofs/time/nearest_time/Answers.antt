@@ -4,9 +4,10 @@ use mathlib.Core.Path.{refl, sym, ap, ap₂, ◌∙◌}
 use Prim.Native.Nat.{◌+◌}
 use native.Mathlib.Omega.{arith}
 use lib.Bits.{bit_xor}
-use Rattle.std.specs.Prelude.{Err}
+use Rattle.std.proofs.Common.{◌≡◌, rules}
+use Rattle.words.specs.Refusal.{TIME, refused_at}
 use Rattle.words.specs.Bits.{bits_of}
-use Rattle.words.specs.Time.{time_is}
+use Rattle.words.specs.Time.{time_is, nearest_time}
 use Rattle.words.proofs.time.Laws.{turns, turn_at, packed_distance, packed_next, nearest_here, nearest_on, nearest_end, zero_packed}
 use Rattle.words.proofs.time.nearest_time.Goals as goal
 
@@ -38,5 +39,6 @@ loop-toi-preserved c =
 pub returns : goal.returns
 returns c =
     let loop = c.loop-toi in
-    ap Err c.at.ensures
-    ∙ sym (nearest_end (bits_of 52 c.args.symbols) loop.toi (omega (arith, c.loop-toi-test.false))) ∙ loop.invariant.1
+    let none : refused_at TIME 0 ≡ nearest_time 400 0 (bits_of 52 c.args.symbols) =
+    sym (nearest_end (bits_of 52 c.args.symbols) loop.toi (omega (arith, c.loop-toi-test.false))) ∙ loop.invariant.1 in
+    search (rules, none)
