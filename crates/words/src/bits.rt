@@ -168,25 +168,12 @@ fn put_bits(bytes: &mut [u8], at: usize, width: usize, number: u64)
     }
 }
 
-// `width` bits from `at` on lie within `count` bytes and hold the number.
-fn fits_number(count: usize, at: usize, width: usize, number: u64) -> bool
-    ensures { result ≡ (leb (at + width) count && ltb number (2 ^ width)) }
-{
-    is_inside(count, at, width) && holds_number(number, width)
-}
-
-// The same with a sign.
-fn fits_signed(count: usize, at: usize, width: usize, z: i64) -> bool
-    ensures { result ≡ (leb (at + width) count && holds_signed width z) }
-{
-    is_inside(count, at, width) && holds_signed(z, width)
-}
-
 // The `width` bits of the number from `at` on; refused 1 at 0 where they are not within the bytes or do not hold it.
 pub fn put_number(bytes: &mut [u8], at: usize, width: usize, number: u64) -> Result<(), Refusal>
     ensures { (result ≡ number_answer bytes.old at width number) × (bytes.new ≡ number_bytes bytes.old at width number) }
 {
-    if !fits_number(bytes.len(), at, width, number) {
+    let fits = is_inside(bytes.len(), at, width) && holds_number(number, width);
+    if !fits {
         return Err(Rule::Length.at(0));
     }
     put_bits(bytes, at, width, number);
@@ -197,7 +184,8 @@ pub fn put_number(bytes: &mut [u8], at: usize, width: usize, number: u64) -> Res
 pub fn put_signed(bytes: &mut [u8], at: usize, width: usize, number: i64) -> Result<(), Refusal>
     ensures { (result ≡ signed_answer bytes.old at width number) × (bytes.new ≡ signed_bytes bytes.old at width number) }
 {
-    if !fits_signed(bytes.len(), at, width, number) {
+    let fits = is_inside(bytes.len(), at, width) && holds_signed(number, width);
+    if !fits {
         return Err(Rule::Length.at(0));
     }
     put_bits(bytes, at, width, unsigned_of(number, width));
