@@ -7,7 +7,7 @@ ghost use Rattle.fields.specs.Pages.{PAGE_BITS, HEAD_BITS, BODY_BITS, PAGE_COUNT
 
 use super::counts::{first_out, read_counts, write_counts};
 use super::table::{Table, bit_count, field_count};
-use words::bits::{first_not_bit, put_number, take_number};
+use words::bits::{judge_bits, put_number, take_number};
 use words::refusal::{Refusal, Rule};
 
 // The page bits: PRN and page number before the body, and the body.
@@ -216,10 +216,7 @@ pub fn judge_page(bits: &[u8]) -> Result<(), Refusal>
     if bits.len() != PAGE_BITS {
         return Err(Rule::Length.at(0));
     }
-    let bad = first_not_bit(bits);
-    if bad != bits.len() {
-        return Err(Rule::NotABit.at(bad));
-    }
+    judge_bits(bits)?;
     judge_fields(bits)
 }
 
@@ -287,11 +284,7 @@ pub fn put_page(page: Page, bits: &mut [u8]) -> Result<(), Refusal>
     if bits.len() != PAGE_BITS {
         return Err(Rule::Length.at(0));
     }
-    let carried = page.used_bits();
-    let bad = first_not_bit(carried);
-    if bad != carried.len() {
-        return Err(Rule::NotABit.at(bad));
-    }
+    judge_bits(page.used_bits())?;
     judge_record(&page)?;
     write_page(&page, bits);
     Ok(())

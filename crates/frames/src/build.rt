@@ -16,7 +16,7 @@ use fields::pages::judge_page;
 use fields::subframe2::write_fields;
 use parity::order::interleave;
 use tables::matrix::Subframe;
-use words::bits::first_not_bit;
+use words::bits::judge_bits;
 use words::refusal::{Refusal, Rule};
 use words::time::{LAST_TOI, write_time};
 
@@ -87,10 +87,7 @@ pub fn build(toi: u16, counts: &[i64], page: &[u8], frame: &mut [u8]) -> Result<
     if !has_sizes(counts.len(), page.len(), frame.len()) {
         return Err(Rule::Length.at(0));
     }
-    let bad = first_not_bit(page);
-    if bad != page.len() {
-        return Err(Rule::NotABit.at(bad));
-    }
+    judge_bits(page)?;
     if LAST_TOI < toi {
         return Err(Rule::Time.at(0));
     }

@@ -8,7 +8,7 @@ ghost use Rattle.frames.specs.Frame.{FRAME, time_in, subframe_in};
 ghost use Rattle.frames.specs.Read.{frame_judged};
 
 use parity::order::deinterleave;
-use words::bits::first_not_bit;
+use words::bits::judge_bits;
 use words::refusal::{Refusal, Rule};
 use words::time::{Time, read_time};
 
@@ -37,10 +37,7 @@ impl<'a> Symbols<'a> {
         if unfit {
             return Err(Rule::Length.at(0));
         }
-        let bad = first_not_bit(frame);
-        if bad != frame.len() {
-            return Err(Rule::NotABit.at(bad));
-        }
+        judge_bits(frame)?;
         Ok(Symbols { all: frame })
     }
 
