@@ -10,7 +10,7 @@ use super::refusal::{Refusal, Rule};
 pub const LAST_TOI: u16 = 399;
 
 // What reading a time word gives: the time, and how many of the 52 symbols differ from its word.
-#[derive(Clone, Copy)]
+#[derive(Clone, Copy, PartialEq, Eq)]
 pub struct Time {
     pub toi: u16,
     pub corrected: u32,
