@@ -1,19 +1,17 @@
 -- The clock terms (document 01, "Subframe 2"; IS-GPS-800, Table 3.5-1): af0 times 2^-35, af1 times 2^-48 and af2 times 2^-60 as one record
 -- of three 64-bit floating numbers, and taken back to counts.
 -- Assumes nothing.
-use Rattle.std.specs.Prelude.{◌≡◌, ℕ, ◌*◌, ◌/◌, ◌%◌, ◌^◌, Bool, true, false, cond, not, ◌&&◌, ℤ, pos, negsuc, neg_ℤ, ◌==◌, slice_index_or, unsigned_abs, Float, Option, None, Some}
+use Rattle.std.specs.Prelude.{◌≡◌, ℕ, ◌*◌, ◌/◌, ◌%◌, ◌^◌, Bool, true, false, cond, not, ◌&&◌, ℤ, pos, negsuc, neg_ℤ, ◌==◌, slice_index_or, unsigned_abs, Float, Option, None, Some, Result}
 use Rattle.std.specs.Float.{nan, inf, fin, binary64}
 use Rattle.std.specs.Float.Ieee.{up, down, round}
 use Rattle.std.specs.Float.Ieee.Exact.{HasValue}
-use Rattle.words.specs.Refusal.{FIELD_2, refused_at, done_if, in_turn, number_of, place_of}
-use Rattle.words.specs.declared.refusal.Answer.{Answer}
-use Rattle.words.specs.declared.refusal.Answer.TheVariants.{Done, Refused}
+use Rattle.words.specs.Refusal.{FIELD_2, Answer, given_by, done_if, in_turn, number_of, place_of}
+use Rattle.words.specs.declared.refusal.Refusal.{Refusal}
 use Rattle.fields.specs.Table.{twos, fields_in, no_field, first_bit}
 use Rattle.fields.specs.Counts.{in_range}
 use Rattle.fields.specs.declared.table.Field.{Field}
 use Rattle.fields.specs.declared.table.Table.TheVariants.{Subframe2}
 use Rattle.clock.specs.declared.clock.Clock.{Clock}
-use Rattle.clock.specs.declared.clock.ClockTaken.{ClockTaken}
 use Rattle.clock.specs.declared.clock.ClockCounts.{ClockCounts}
 
 -- ---- one count and one floating number, in steps of 2^-k
@@ -103,26 +101,13 @@ plus_zero = fin false 0 (pos 0)
 abbrev pub clock_terms : ℤ → ℤ → ℤ → Clock
 clock_terms a b c = record { af0 = term_of STEP0 a; af1 = term_of STEP1 b; af2 = term_of STEP2 c }
 
--- what stands beside a refusal
-abbrev pub zero_clock : Clock
-zero_clock = record { af0 = plus_zero; af1 = plus_zero; af2 = plus_zero }
-
--- refused 6 at a bit, with plus zeros beside it
-abbrev pub no_clock : ℕ → ClockTaken
-no_clock place = record { answer = refused_at FIELD_2 place; clock = zero_clock }
-
--- the clock terms, or a refusal with plus zeros beside it
-abbrev pub clock_by : Answer → Clock → ClockTaken
-clock_by Done clock = record { answer = Done; clock = clock }
-clock_by (Refused r) clock = record { answer = Refused r; clock = zero_clock }
-
 -- a count is in the range of a row's field
 abbrev pub is_count_of : ℕ → ℤ → Bool
 is_count_of row z = in_range (clock_field row) z
 
 -- the clock terms of three counts; refused 6 at the first bit of the first field whose width a count is not in
-abbrev pub clock_taken : ℤ → ℤ → ℤ → ClockTaken
-clock_taken a b c = clock_by (clock_answer (is_count_of AF0 a) (is_count_of AF1 b) (is_count_of AF2 c)) (clock_terms a b c)
+abbrev pub clock_taken : ℤ → ℤ → ℤ → Result Clock Refusal
+clock_taken a b c = given_by (clock_answer (is_count_of AF0 a) (is_count_of AF1 b) (is_count_of AF2 c)) (clock_terms a b c)
 
 -- ---- taking counts back
 
@@ -136,21 +121,13 @@ abbrev pub the_count : Option ℤ → ℤ
 the_count (Some z) = z
 the_count None = pos 0
 
--- refused 6 at a bit, with zeros beside it
-abbrev pub no_clock_counts : ℕ → ClockCounts
-no_clock_counts place = record { answer = refused_at FIELD_2 place; af0 = pos 0; af1 = pos 0; af2 = pos 0 }
-
--- the counts, or a refusal with zeros beside it
-abbrev pub counts_by : Answer → ℤ → ℤ → ℤ → ClockCounts
-counts_by Done a b c = record { answer = Done; af0 = a; af1 = b; af2 = c }
-counts_by (Refused r) a b c = record { answer = Refused r; af0 = pos 0; af1 = pos 0; af2 = pos 0 }
-
--- the same of what three terms are taken back to
-abbrev pub counts_of_three : Option ℤ → Option ℤ → Option ℤ → ClockCounts
-counts_of_three s t u = counts_by (clock_answer (is_count s) (is_count t) (is_count u)) (the_count s) (the_count t) (the_count u)
+-- the counts of what three terms are taken back to; refused 6 at the first bit of the first that is no count
+abbrev pub counts_of_three : Option ℤ → Option ℤ → Option ℤ → Result ClockCounts Refusal
+counts_of_three s t u =
+    given_by (clock_answer (is_count s) (is_count t) (is_count u)) (record { af0 = the_count s; af1 = the_count t; af2 = the_count u })
 
 -- the counts whose clock terms these are; refused 6 at the first bit of the first field none of whose counts has the term given
-abbrev pub clock_counts : Clock → ClockCounts
+abbrev pub clock_counts : Clock → Result ClockCounts Refusal
 clock_counts clock =
     counts_of_three (count_in STEP0 (clock_field AF0) clock.af0) (count_in STEP1 (clock_field AF1) clock.af1)
     (count_in STEP2 (clock_field AF2) clock.af2)

@@ -3,18 +3,23 @@ ghost use Rattle.std.specs.Prelude.{◌≡◌, ◌+◌, ◌^◌, ◌<◌, ◌≤
 ghost use Rattle.std.specs.Float.{fin};
 ghost use Rattle.std.specs.Float.Ieee.{minus};
 ghost use Rattle.std.specs.Int.Signed.{mag};
+ghost use Rattle.words.specs.Refusal.{FIELD_2, given_by, done_if};
 ghost use Rattle.fields.specs.Counts.{in_range};
-ghost use Rattle.clock.specs.Clock.{signed_field, term_of, count_in, no_clock, no_clock_counts, clock_taken, clock_counts};
+ghost use Rattle.clock.specs.Clock.{signed_field, term_of, count_in, is_count, the_count, clock_taken, clock_counts};
 
 use words::bits::magnitude;
-use words::refusal::{Answer, FIELD_2, refuse};
+use words::refusal::{Refusal, Rule};
 
-// A clock term: its width in bits, its first bit, and its step, which is 2^-step.
+// A clock term: its width in bits, its first bit, and its step, which is 2^-step. The width and the step are such that floating
+// numbers hold its terms exactly.
 #[derive(Clone, Copy)]
 struct Term {
     width: u64,
     bit: usize,
     step: u64,
+    ghost has_digits: { 0 < width },
+    ghost few_digits: { width ≤ 53 },
+    ghost small_step: { step ≤ 1000 },
 }
 
 const AF0: Term = Term {
@@ -46,17 +51,9 @@ pub struct Clock {
     pub af2: f64,
 }
 
-// What handing out counts gives: the clock terms, or a refusal with plus zeros beside it.
-#[derive(Clone, Copy)]
-pub struct ClockTaken {
-    pub answer: Answer,
-    pub clock: Clock,
-}
-
-// What taking clock terms back gives: the counts, or a refusal with zeros beside it.
-#[derive(Clone, Copy)]
+// The counts whose clock terms they are.
+#[derive(Clone, Copy, PartialEq, Eq)]
 pub struct ClockCounts {
-    pub answer: Answer,
     pub af0: i64,
     pub af1: i64,
     pub af2: i64,
@@ -73,7 +70,6 @@ fn power(e: u64) -> f64
 impl Term {
     // The count is in a signed field of its width.
     fn has_width(self, count: i64) -> bool
-        requires { (0 < self.width) × (self.width ≤ 53) }
         ensures { result ≡ in_range (signed_field self.width) count }
     {
         magnitude(count) < 1u64 << (self.width - 1)
@@ -81,7 +77,7 @@ impl Term {
 
     // The count times its step.
     fn term_of(self, count: i64) -> f64
-        requires { (self.step ≤ 1000) × (mag count < 2 ^ 52) }
+        requires { mag count < 2 ^ 52 }
         ensures { result ≡ term_of self.step count }
     {
         std::num::nearest_i64_to_f64(count) * power(1023 - self.step)
@@ -89,7 +85,6 @@ impl Term {
 
     // The count, in a signed field of its width, whose product with its step this is.
     fn count_of(self, x: f64) -> Option<i64>
-        requires { (self.step ≤ 1000) × (0 < self.width) × (self.width ≤ 53) }
         ensures { result ≡ count_in self.step (signed_field self.width) x }
     {
         let y = x * power(1023 + self.step);
@@ -101,75 +96,45 @@ impl Term {
         }
         None
     }
-}
 
-// Refused 6 at this bit, with plus zeros beside it.
-fn no_clock(place: usize) -> ClockTaken
-    ensures { result ≡ no_clock place }
-{
-    ClockTaken {
-        answer: refuse(FIELD_2, place),
-        clock: Clock {
-            af0: 0.0,
-            af1: 0.0,
-            af2: 0.0,
-        },
+    // The term of a count; refused 6 at the field's first bit unless the count is in the field's width.
+    fn hand_out(self, count: i64) -> Result<f64, Refusal>
+        ensures { result ≡ given_by (done_if (in_range (signed_field self.width) count) FIELD_2 self.bit) (term_of self.step count) }
+    {
+        if !self.has_width(count) {
+            return Err(Rule::Field2.at(self.bit));
+        }
+        Ok(self.term_of(count))
+    }
+
+    // The count whose term this is; refused 6 at the field's first bit if no count in the field's width has it.
+    fn take_back(self, x: f64) -> Result<i64, Refusal>
+        ensures { result ≡ given_by (done_if (is_count (count_in self.step (signed_field self.width) x)) FIELD_2 self.bit)
+            (the_count (count_in self.step (signed_field self.width) x)) }
+    {
+        self.count_of(x).ok_or(Rule::Field2.at(self.bit))
     }
 }
 
 // The clock terms of three counts: af0 times 2^-35, af1 times 2^-48, af2 times 2^-60; refused 6 at the first bit of the first field whose
 // width a count is not in.
-pub fn clock_of(af0: i64, af1: i64, af2: i64) -> ClockTaken
+pub fn clock_of(af0: i64, af1: i64, af2: i64) -> Result<Clock, Refusal>
     ensures { result ≡ clock_taken af0 af1 af2 }
 {
-    if !AF0.has_width(af0) {
-        return no_clock(AF0.bit);
-    }
-    if !AF1.has_width(af1) {
-        return no_clock(AF1.bit);
-    }
-    if !AF2.has_width(af2) {
-        return no_clock(AF2.bit);
-    }
-    ClockTaken {
-        answer: Answer::Done,
-        clock: Clock {
-            af0: AF0.term_of(af0),
-            af1: AF1.term_of(af1),
-            af2: AF2.term_of(af2),
-        },
-    }
-}
-
-// Refused 6 at this bit, with zeros beside it.
-fn no_counts(place: usize) -> ClockCounts
-    ensures { result ≡ no_clock_counts place }
-{
-    ClockCounts {
-        answer: refuse(FIELD_2, place),
-        af0: 0,
-        af1: 0,
-        af2: 0,
-    }
+    Ok(Clock {
+        af0: AF0.hand_out(af0)?,
+        af1: AF1.hand_out(af1)?,
+        af2: AF2.hand_out(af2)?,
+    })
 }
 
 // The counts whose clock terms these are; refused 6 at the first bit of the first field none of whose counts has the term given.
-pub fn counts_of(clock: Clock) -> ClockCounts
+pub fn counts_of(clock: Clock) -> Result<ClockCounts, Refusal>
     ensures { result ≡ clock_counts clock }
 {
-    let Some(af0) = AF0.count_of(clock.af0) else {
-        return no_counts(AF0.bit);
-    };
-    let Some(af1) = AF1.count_of(clock.af1) else {
-        return no_counts(AF1.bit);
-    };
-    let Some(af2) = AF2.count_of(clock.af2) else {
-        return no_counts(AF2.bit);
-    };
-    ClockCounts {
-        answer: Answer::Done,
-        af0,
-        af1,
-        af2,
-    }
+    Ok(ClockCounts {
+        af0: AF0.take_back(clock.af0)?,
+        af1: AF1.take_back(clock.af1)?,
+        af2: AF2.take_back(clock.af2)?,
+    })
 }

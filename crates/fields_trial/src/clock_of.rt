@@ -1,15 +1,14 @@
 // The function `clock_of` of `clock::clock`.
 use super::terms::{STEPS0, STEPS1, STEPS2};
-use clock::clock::{Clock, ClockTaken, clock_of};
-use show::{expected, is_done, is_refused};
+use clock::clock::{Clock, clock_of};
+use show::{done, expected, refused};
+use words::refusal::Refusal;
 
-fn terms(text: &[u8], taken: ClockTaken, af0: f64, af1: f64, af2: f64) {
-    let answer = taken.answer;
-    let clock = taken.clock;
-    expected(text, is_done(answer));
+fn terms(text: &[u8], taken: Result<Clock, Refusal>, af0: f64, af1: f64, af2: f64) {
+    done(text, &taken);
     expected(
         b"  and these are the terms",
-        clock.af0 == af0 && clock.af1 == af1 && clock.af2 == af2,
+        matches!(taken, Ok(clock) if clock.af0 == af0 && clock.af1 == af1 && clock.af2 == af2),
     );
 }
 
@@ -57,25 +56,19 @@ fn are_plus_zeros(clock: Clock) -> bool {
 }
 
 pub(crate) fn zeros() {
-    let taken = clock_of(0, 0, 0);
-    let answer = taken.answer;
-    let clock = taken.clock;
     expected(
         b"clock_of 0, 0 and 0 is done: plus zeros",
-        is_done(answer) && are_plus_zeros(clock),
+        matches!(clock_of(0, 0, 0), Ok(clock) if are_plus_zeros(clock)),
     );
 }
 
-// Refused 6, with plus zeros beside it.
-fn too_large_at(text: &[u8], taken: ClockTaken, place: usize) {
-    let answer = taken.answer;
-    let clock = taken.clock;
-    expected(text, is_refused(answer, 6, place) && are_plus_zeros(clock));
+fn too_large_at(text: &[u8], taken: Result<Clock, Refusal>, place: usize) {
+    refused(text, &taken, 6, place);
 }
 
 pub(crate) fn too_large() {
     too_large_at(
-        b"af0 33554432 is refused 6 at 471, with plus zeros",
+        b"af0 33554432 is refused 6 at 471",
         clock_of(33554432, 0, 0),
         471,
     );

@@ -1,6 +1,7 @@
 // The function `counts_of` of `clock::clock`.
 use clock::clock::{Clock, ClockCounts, counts_of};
-use show::{expected, is_done, is_refused};
+use show::{expected, refused};
+use words::refusal::Refusal;
 
 // A step of each term is one divided by 2^35, 2^48, 2^60.
 pub(crate) const STEPS0: f64 = 34359738368.0;
@@ -9,16 +10,12 @@ pub(crate) const STEPS1: f64 = 281474976710656.0;
 
 pub(crate) const STEPS2: f64 = 1152921504606846976.0;
 
-fn of(af0: f64, af1: f64, af2: f64) -> ClockCounts {
+fn of(af0: f64, af1: f64, af2: f64) -> Result<ClockCounts, Refusal> {
     counts_of(Clock { af0, af1, af2 })
 }
 
-fn counts(text: &[u8], taken: ClockCounts, af0: i64, af1: i64, af2: i64) {
-    let answer = taken.answer;
-    expected(
-        text,
-        is_done(answer) && taken.af0 == af0 && taken.af1 == af1 && taken.af2 == af2,
-    );
+fn counts(text: &[u8], taken: Result<ClockCounts, Refusal>, af0: i64, af1: i64, af2: i64) {
+    expected(text, taken == Ok(ClockCounts { af0, af1, af2 }));
 }
 
 pub(crate) fn known() {
@@ -52,13 +49,8 @@ pub(crate) fn known() {
     );
 }
 
-// Refused 6, with zeros beside it.
-fn not_taken(text: &[u8], taken: ClockCounts, place: usize) {
-    let answer = taken.answer;
-    expected(
-        text,
-        is_refused(answer, 6, place) && taken.af0 == 0 && taken.af1 == 0 && taken.af2 == 0,
-    );
+fn not_taken(text: &[u8], taken: Result<ClockCounts, Refusal>, place: usize) {
+    refused(text, &taken, 6, place);
 }
 
 // The same in each place, behind zeros.
@@ -70,7 +62,7 @@ fn refused_in_turn(text: &[u8], x: f64) {
 
 pub(crate) fn no_numbers() {
     refused_in_turn(
-        b"counts_of what is no number is refused 6 at 471, with zeros",
+        b"counts_of what is no number is refused 6 at 471",
         0.0 / 0.0,
     );
     refused_in_turn(b"counts_of plus infinity is", 1.0 / 0.0);

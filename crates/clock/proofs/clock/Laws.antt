@@ -10,6 +10,7 @@ use Rattle.fields.specs.Counts.{in_range}
 use Rattle.clock.specs.Clock.{negative, term_of, count_in, signed_field}
 use Rattle.clock.specs.Laws.OneValue.{same_bits}
 use Rattle.clock.specs.Laws.Terms.{term_fits, range_53, term_back, no_count}
+use Rattle.clock.specs.declared.clock.Term.{Term}
 use Rattle.clock.proofs.clock.Powers.{power, int_exact, up_steps}
 
 -- ---- signed fields
@@ -80,10 +81,10 @@ pub record Scaled (k w : ℕ) (x y : Float) : Type 0 where
   pub is : y ≡ mul binary64 x (power (1023 + k))
 
 -- the y that the code makes
-pub scaled : {k w : ℕ} {x p : Float} → (k ≤ 1000) × (0 < w) × (w ≤ 53) → T (fits binary64 x) → p ≡ power (1023 + k)
-    → Scaled k w x (mul binary64 x p)
-scaled {k} {w} {x} few held e =
-    record { step = few.0; some = few.1; few = few.2; held = held; is = ap (mul binary64 x) e }
+pub scaled : (term : Term) {x p : Float} → T (fits binary64 x) → p ≡ power (1023 + term.step)
+    → Scaled term.step term.width x (mul binary64 x p)
+scaled term {x} held e =
+    record { step = term.small_step; some = term.has_digits; few = term.few_digits; held = held; is = ap (mul binary64 x) e }
 
 module _ {k w : ℕ} {x y : Float} (h : Scaled k w x y) where
   small : (signed_field w).most < 2 ^ 52

@@ -1,10 +1,9 @@
 -- The rows of the clock terms in the table of subframe 2, and what three tests of them answer.
 -- Assumes nothing.
-use Rattle.std.specs.Prelude.{◌≡◌, ℕ, ◌^◌, ◌<◌, Bool, true, false, ◌↔◌, refl}
-use Rattle.std.proofs.Common.{sym, ap, true≢false, arith, lit<}
-use Rattle.words.specs.Refusal.{FIELD_2, refused_at, number_of, place_of}
-use Rattle.words.specs.declared.refusal.Answer.{Answer}
-use Rattle.words.specs.declared.refusal.Answer.TheVariants.{Done}
+use Rattle.std.specs.Prelude.{◌≡◌, ℕ, ◌^◌, ◌<◌, Bool, true, false, ◌↔◌, refl, Result, Ok, Err}
+use Rattle.std.proofs.Common.{sym, ap, ap₂, true≢false, arith, lit<}
+use Rattle.words.specs.Refusal.{FIELD_2, Answer, Done, answer_of, refused_at, number_of, place_of}
+use Rattle.words.specs.declared.refusal.Refusal.{Refusal}
 use Rattle.fields.specs.Table.{subframe2_rows, fields_in, bit_count, first_bit}
 use Rattle.fields.specs.declared.table.Table.TheVariants.{Subframe2}
 use Rattle.clock.specs.Clock.{AF0, AF1, AF2, clock_field, signed_field, clock_answer, Refused6}
@@ -48,6 +47,11 @@ answer_done s t u e f g = rw (e, f, g) refl
 
 refused_so : {answer : Answer} {place : ℕ} → answer ≡ refused_at FIELD_2 place → Refused6 answer place
 refused_so e = record { number_is = ap number_of e; place_is = ap place_of e }
+
+-- what has the answer of a refusal is that refusal
+pub only_refused : {A : Type 0} (given : Result A Refusal) (place : ℕ) → Refused6 (answer_of given) place → given ≡ refused_at FIELD_2 place
+only_refused (Ok x) place h = absurd (omega (arith, h.number_is))
+only_refused (Err r) place h = ap₂ refused_at h.number_is h.place_is
 
 -- the first is wrong
 pub wrong0 : (s t u : Bool) → Refused6 (clock_answer s t u) 471 ↔ (s ≡ false)

@@ -22,18 +22,18 @@ truncating_f64_to_i64-n-requires-clause-upper_bound c = subst T (sym c.if-y-2.tr
 pub term_of-requires : goal.term_of-requires
 term_of-requires c =
     let z : ℤ = to_z w64 (of_z w64 c.truncating_f64_to_i64-n.result) in
-    let w = c.args.self.width in
+    let term = c.args.self in
     let fine = sym c.has_width.ensures ∙ c.if-has_width.true in
-    (c.requires.0, omega (arith, range_most (signed_field w) z fine, narrow w c.requires.1 c.requires.2))
+    omega (arith, range_most (signed_field term.width) z fine, narrow term.width term.has_digits term.few_digits)
 
 pub float_to_bits-term_of : goal.float_to_bits-term_of
 float_to_bits-term_of c =
     let z : ℤ = to_z w64 (of_z w64 c.truncating_f64_to_i64-n.result) in
-    let k = c.args.self.step in
-    let w = c.args.self.width in
+    let term = c.args.self in
+    let k = term.step in
     let fine = sym c.has_width.ensures ∙ c.if-has_width.true in
-    let digits = range_53 (signed_field w) z (narrow w c.requires.1 c.requires.2) fine in
-    rw c.term_of.ensures (value_no_nan (term_of k z) (negative z) (nat_abs z) (2 ^ k) (term_exact k z digits (omega (arith, c.requires.0))))
+    let digits = range_53 (signed_field term.width) z (narrow term.width term.has_digits term.few_digits) fine in
+    rw c.term_of.ensures (value_no_nan (term_of k z) (negative z) (nat_abs z) (2 ^ k) (term_exact k z digits (omega (arith, term.small_step))))
 
 pub float_to_bits-x : goal.float_to_bits-x
 float_to_bits-x c =
@@ -41,13 +41,13 @@ float_to_bits-x c =
 
 pub returns-then-term_of-x : goal.returns-then-term_of-x
 returns-then-term_of-x c =
-    let made = scaled c.requires (subst T (sym c.well_formed.1.0.1) tt) c.power.ensures in
+    let made = scaled c.args.self (subst T (sym c.well_formed.1.0.1) tt) c.power.ensures in
     let fine = sym c.has_width.ensures ∙ c.if-has_width.true in
     sym (in_bits made _ fine (ap (to_bits binary64) (sym c.term_of.ensures) ∙ c.if-term_of-x.true))
 
 pub returns-else-has_width : goal.returns-else-has_width
 returns-else-has_width c =
-    let made = scaled c.requires (subst T (sym c.well_formed.1.0.1) tt) c.power.ensures in
+    let made = scaled c.args.self (subst T (sym c.well_formed.1.0.1) tt) c.power.ensures in
     let n = c.truncating_f64_to_i64-n in
     let cut = to_z-of_z w64 n.result (record { sfits = n.type_inv }) ∙ n.ensures in
     sym (elim c.else-has_width.branch [
@@ -59,7 +59,7 @@ returns-else-has_width c =
 pub returns-else-y : goal.returns-else-y
 unfolding of_bits neg
 returns-else-y c =
-    let made = scaled c.requires (subst T (sym c.well_formed.1.0.1) tt) c.power.ensures in
+    let made = scaled c.args.self (subst T (sym c.well_formed.1.0.1) tt) c.power.ensures in
     sym (elim c.else-y.branch [
       | else-y-via-then-y+else-y-2 w ↦ out_high made w.if-y-2.false
       | else-y-via-else-y w ↦ out_low made w.if-y.false

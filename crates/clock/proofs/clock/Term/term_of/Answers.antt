@@ -8,6 +8,6 @@ use Rattle.clock.proofs.clock.Term.term_of.Goals as goal
 pub returns : goal.returns
 returns c =
     let z = c.args.count in
-    let digits : nat_abs z < 2 ^ 53 = omega (arith, nat_abs-le z c.requires.1) in
+    let digits : nat_abs z < 2 ^ 53 = omega (arith, nat_abs-le z c.requires) in
     rw (c.nearest_i64_to_f64.ensures, c.power.ensures, to_z-of_z w64 z c.ranges.count)
-    (down_steps c.args.self.step z digits (omega (arith, c.requires.0)))
+    (down_steps c.args.self.step z digits (omega (arith, c.args.self.small_step)))
