@@ -5,10 +5,9 @@ use Rattle.std.specs.Prelude.{◌≡◌, refl, Bool, true, false, ◌&&◌, List
 use Rattle.std.proofs.Common.{sym, ap, ◌∙◌, subst, arith, length-drop, length-take, eqb-true, eq-eqb, leb-true, lt-ltb}
 use Rattle.std.proofs.Math.Bool.{and-eq-true_iff}
 use Rattle.words.specs.Bits.{IsBits, first_not_bit}
-use Rattle.words.specs.Refusal.{LENGTH, TIME, refused_at, done_if, left_by, Answer, Done, answer_of}
+use Rattle.words.specs.Refusal.{LENGTH, TIME, refused_at, done_if, left_by, Answer, Done, answer_of, list_given}
 use Rattle.words.specs.Sums.{weight}
 use Rattle.words.specs.Time.{LAST_TOI, time_is}
-use Rattle.words.specs.declared.time.Time.{Time}
 use Rattle.words.specs.Unchanged.{Refuses, refused_by_answer}
 use Rattle.words.specs.Laws.Digits.{bits_none}
 use Rattle.words.specs.Laws.Turns.{both_done, test_done, judged_done}
@@ -17,20 +16,18 @@ use Rattle.fields.specs.Pages.{PAGE_BITS}
 use Rattle.tables.specs.declared.matrix.Subframe.TheVariants.{Two, Three}
 use Rattle.frames.specs.Frame.{Contents, GoodContents, FRAME, frame_of, IsFrame, time_in, data_in}
 use Rattle.frames.specs.Build.{contents_of, build_lengths, contents_answer, build_answer}
-use Rattle.frames.specs.Read.{frame_is, frame_read, time_alone, subframe2_alone, subframe3_alone}
+use Rattle.frames.specs.Read.{frame_is, frame_read, time_alone, subframe2_alone, subframe3_alone, frame_corrected, time_numbers, frame_numbers, frame_page}
 use Rattle.frames.specs.Building.{build_exactly}
 use Rattle.frames.specs.Built.{built_right}
 use Rattle.frames.proofs.Reading.{read_built}
 use Rattle.frames.specs.Turned.{FrameFlags, turned, SomeTurned, NamedDamage}
 use Rattle.frames.specs.Damage.{time_borne}
 use Rattle.frames.proofs.Damage.{noticed_2, noticed_3}
-use Rattle.frames.specs.declared.read.Frame.{Frame}
 use Rattle.sheets.specs.List.{NUMBERS}
-use Rattle.sheets.specs.Sheet.{sheet_is, sheet_read}
-use Rattle.sheets.specs.Write.{sheet_written, written_bytes}
+use Rattle.sheets.specs.Sheet.{sheet_is, sheet_read, sheet_before, sheet_numbers}
+use Rattle.sheets.specs.Write.{sheet_written, written_bytes, size_written}
 use Rattle.sheets.specs.Writing.{write_unchanged}
 use Rattle.sheets.proofs.Writing.{written_read}
-use Rattle.sheets.specs.declared.sheet.Sheet.{Sheet}
 use Rattle.exports.specs.Code.{HALF, code_of, Reports}
 use Rattle.exports.specs.Calls.{lent_answer, numbers_left, toi_of, contents_given, build_call, build_call_frame, read_call, read_call_numbers, read_call_page, time_call, time_call_time, subframe2_call, subframe2_call_counts, subframe3_call, subframe3_call_page, sheet_call, sheet_call_numbers}
 use Rattle.exports.specs.Told.{build_told, read_told, time_told, subframe2_told, subframe3_told, sheet_told, written_told}
@@ -76,7 +73,7 @@ refuses : (a : Answer) (said : ℕ) → Reports (code_of a said) a said → IsRe
 refuses a said told h e = h (told.number ∙ e)
 
 numbers_stay : (a : Answer) (new zs : List ℤ) → Refuses a → numbers_left a new zs ≡ zs
-numbers_stay (Ok tt) new zs h = absurd (h refl)
+numbers_stay (Ok _) new zs h = absurd (h refl)
 numbers_stay (Err r) new zs h = refl
 
 -- Where l1c_build refuses, the frame is as it was.
@@ -220,31 +217,31 @@ pub built_is_read : (zs others : List ℤ) (page bits out : List ℕ) → build_
     × (read_call_numbers (build_call_frame zs page out) others bits ≡ zs)
     × (read_call_page (build_call_frame zs page out) others bits ≡ page)
 built_is_read zs others page bits out e many long =
-    (read_done, ap (λ (x : Frame). x.corrected) found, numbers, ap (λ (a : Answer). left_by a (frame_page (frame_read f)) bits) read_done ∙ ap (λ (x : Frame). x.page) found)
+    (read_done, ap frame_corrected found, numbers, ap (λ (a : Answer). left_by a (frame_page (frame_read f)) bits) read_done ∙ ap frame_page found)
   where
     f : List ℕ
     f = build_call_frame zs page out
 
-    found : frame_read f ≡ frame_is (contents_given zs page) 0
+    found : frame_read f ≡ Ok (frame_is (contents_given zs page) 0)
     found = ap frame_read (built_frame zs page out e) ∙ read_built (contents_given zs page) (built_good zs page out e)
 
     read_done : read_call f others bits ≡ Done
-    read_done = read_as f others bits many long ∙ ap (λ (x : Frame). answer_of x) found
+    read_done = read_as f others bits many long ∙ ap answer_of found
 
     numbers : read_call_numbers f others bits ≡ zs
     numbers =
         ap (λ (a : Answer). numbers_left a (frame_numbers (frame_read f)) others) read_done
-        ∙ ap (λ (x : Frame). pos x.toi ∷ x.counts) found ∙ built_numbers zs page out e
+        ∙ ap frame_numbers found ∙ built_numbers zs page out e
 
 -- What l1c_write_sheet wrote, l1c_read_sheet reads into any 34 numbers: the same numbers, and nothing stands before the sheet.
 pub written_is_read : (zs others : List ℤ) (out : List ℕ) → answer_of (sheet_written zs out) ≡ Done → length others ≡ NUMBERS
     → (sheet_call (take (size_written (sheet_written zs out)) (written_bytes zs out)) others ≡ Done)
-    × (sheet_before (sheet_read (take (sheet_written zs out).size (written_bytes zs out))) ≡ 0)
+    × (sheet_before (sheet_read (take (size_written (sheet_written zs out)) (written_bytes zs out))) ≡ 0)
     × (sheet_call_numbers (take (size_written (sheet_written zs out)) (written_bytes zs out)) others ≡ zs)
 written_is_read zs others out e many = (
   read_done,
-  ap (λ (x : Sheet). x.before) found,
-  ap (λ (a : Answer). numbers_left a (sheet_numbers (sheet_read s)) others) read_done ∙ ap (λ (x : Sheet). x.numbers) found,
+  ap sheet_before found,
+  ap (λ (a : Answer). numbers_left a (sheet_numbers (sheet_read s)) others) read_done ∙ ap sheet_numbers found,
 )
   where
     s : List ℕ
@@ -257,7 +254,7 @@ written_is_read zs others out e many = (
     short = omega (arith, length-take (size_written (sheet_written zs out)) (written_bytes zs out), written_few zs out e)
 
     read_done : sheet_call s others ≡ Done
-    read_done = sheet_as s others short many ∙ ap (λ (x : Sheet). answer_of x) found
+    read_done = sheet_as s others short many ∙ ap answer_of found
 
 -- ---- demand 3, of any frame that l1c_build built and any of its symbols turned
 
@@ -269,7 +266,7 @@ pub time_is_sent : (zs : List ℤ) (page out t time : List ℕ) → build_call z
 time_is_sent zs page out t time e flags few two = (
   done,
   ap (λ (a : Answer). left_by a (time_numbers (time_alone f)) time) done
-      ∙ ap (λ (x : Time). x.toi ∷ x.corrected ∷ []) found,
+      ∙ ap time_numbers found,
 )
   where
     f : List ℕ
@@ -281,7 +278,7 @@ time_is_sent zs page out t time e flags few two = (
         ∙ time_borne (contents_given zs page) t (built_good zs page out e) flags few
 
     done : time_call f time ≡ Done
-    done = time_as f time two ∙ ap (λ (x : Time). answer_of x) found
+    done = time_as f time two ∙ ap answer_of found
 
 lent_refuses : (lengths : Bool) (a : Answer) → Refuses a → Refuses (lent_answer lengths a)
 lent_refuses true a h = h

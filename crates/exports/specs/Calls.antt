@@ -1,16 +1,16 @@
 -- The calls (include/l1c.h): what each answers, and what is left in the memory lent to it. Numbers are 34, toi's first. A lent slice of
 -- another length than stated is 1 at 0, first; on a refusal all lent memory stays.
 -- Assumes nothing.
-use Rattle.std.specs.Prelude.{Bool, ◌&&◌, List, [], ◌∷◌, ℕ, ◌+◌, min, eqb, ltb, ℤ, pos, negsuc, length, get_or, drop, Err, Ok}
-use Rattle.words.specs.Refusal.{LENGTH, done_if, in_turn, left_by, Answer, answer_of}
+use Rattle.std.specs.Prelude.{Bool, ◌&&◌, List, ℕ, ◌+◌, min, eqb, ltb, ℤ, pos, negsuc, length, get_or, drop, Err, Ok}
+use Rattle.words.specs.Refusal.{LENGTH, done_if, in_turn, left_by, Answer, answer_of, list_given}
 use Rattle.words.specs.Time.{LAST_TOI}
 use Rattle.fields.specs.Subframe2.{COUNTS_2}
 use Rattle.fields.specs.Pages.{PAGE_BITS}
 use Rattle.frames.specs.Frame.{Contents, frame_of}
 use Rattle.frames.specs.Build.{contents_of, build_answer}
-use Rattle.frames.specs.Read.{frame_read, time_alone, subframe2_alone, subframe3_alone}
+use Rattle.frames.specs.Read.{frame_read, time_alone, subframe2_alone, subframe3_alone, frame_numbers, frame_page, time_numbers}
 use Rattle.sheets.specs.List.{NUMBERS}
-use Rattle.sheets.specs.Sheet.{sheet_read}
+use Rattle.sheets.specs.Sheet.{sheet_read, sheet_numbers}
 use Rattle.exports.specs.Code.{HALF}
 
 -- 1 at 0 unless the lent slices are as long as stated, and then what else is answered
@@ -19,7 +19,7 @@ lent_answer lengths answer = in_turn (done_if lengths LENGTH 0) answer
 
 -- what is then left in lent numbers: the new ones where nothing is refused, and else the numbers as they were
 abbrev pub numbers_left : Answer → List ℤ → List ℤ → List ℤ
-numbers_left (Ok tt) new zs = new
+numbers_left (Ok _) new zs = new
 numbers_left (Err r) new zs = zs
 
 -- ---- building

@@ -14,12 +14,12 @@ refusal_code number place = number * HALF + place % HALF
 
 -- an answer, and what is said where nothing is refused
 abbrev pub code_of : Answer → ℕ → ℕ
-code_of (Ok tt) said = said
+code_of (Ok _) said = said
 code_of (Err r) said = refusal_code r.number r.place
 
 -- what the low 32 bits are for: the place of a refusal, or what is said
 abbrev pub low_of : Answer → ℕ → ℕ
-low_of (Ok tt) said = said
+low_of (Ok _) said = said
 low_of (Err r) said = r.place
 
 -- what is returned reports an answer: the high half is its number, which is 0 only where nothing is refused, and the low half its place, or

@@ -1,10 +1,10 @@
 -- THEOREMS: what each call returns reports its answer, the refusal's number and place or what the call says, whatever is lent.
 -- Assumes nothing.
 use Rattle.std.specs.Prelude.{◌≡◌, Bool, true, ◌&&◌, List, ℕ, ◌≤◌, ◌<◌, eqb, ltb, ℤ, length, Err, Ok}
-use Rattle.std.proofs.Common.{sym, subst, arith, ltb-true}
+use Rattle.std.proofs.Common.{sym, subst, arith, ltb-true, Result}
 use Rattle.std.proofs.Math.Bool.{and-eq-true_iff}
-use Rattle.words.specs.Refusal.{LENGTH, done_if, Answer, answer_of}
-use Rattle.words.specs.Time.{time_read, time_is}
+use Rattle.words.specs.Refusal.{LENGTH, done_if, Answer, answer_of, given_by}
+use Rattle.words.specs.Time.{time_read, time_is, corrected_read}
 use Rattle.words.specs.Laws.Judged.{Judged, wrong_length, wrong_byte, time_missing, a_time, judged}
 use Rattle.words.specs.Laws.Turns.{both_done, test_done}
 use Rattle.words.specs.declared.time.Time.{Time}
@@ -13,18 +13,19 @@ use Rattle.fields.specs.Subframe2.{COUNTS_2}
 use Rattle.fields.specs.Pages.{PAGE_BITS}
 use Rattle.frames.specs.Frame.{time_in}
 use Rattle.frames.specs.Build.{build_answer}
-use Rattle.frames.specs.Read.{contents_in, frame_answer, frame_by, frame_read, time_alone, alone_answer}
+use Rattle.frames.specs.Read.{contents_in, frame_answer, frame_is, frame_read, time_alone, alone_answer, frame_corrected}
 use Rattle.sheets.specs.List.{NUMBERS}
 use Rattle.sheets.specs.Lines.{lines_in, numbers_in}
 use Rattle.sheets.specs.Trailer.{start_of, lines_bytes}
-use Rattle.sheets.specs.Sheet.{sheet_answer, sheet_by, sheet_read}
-use Rattle.sheets.specs.Write.{sheet_written}
+use Rattle.sheets.specs.Sheet.{sheet_answer, sheet_by, sheet_read, sheet_before}
+use Rattle.sheets.specs.Write.{sheet_written, size_written}
 use Rattle.sheets.specs.Laws.Sheet.{start_within}
 use Rattle.exports.specs.Code.{HALF, code_of, Reports}
 use Rattle.exports.specs.Calls.{lent_answer, contents_given, build_call, read_call, time_call, subframe2_call, subframe3_call, sheet_call}
 use Rattle.exports.specs.Laws.Codable.{Codable, test_codable, turn_codable, code_reports}
 use Rattle.exports.specs.Laws.Frames.{build_codable, read_codable, time_alone_codable, alone_codable}
 use Rattle.exports.specs.Laws.Sheets.{sheet_codable, written_codable, written_few}
+use Rattle.words.specs.declared.refusal.Refusal.{Refusal}
 
 lent_codable : (lengths : Bool) (a : Answer) → Codable a → Codable (lent_answer lengths a)
 lent_codable lengths a h =
@@ -47,20 +48,20 @@ read_told f zs page =
     code_reports (read_call f zs page) (frame_corrected (frame_read f)) (lent_codable lengths (answer_of (frame_read f)) (read_codable f))
     (λ e. omega (arith, few (frame_answer f)))
   where
-    word_few : (time_read (time_in f)).corrected ≤ 9
+    word_few : corrected_read (time_read (time_in f)) ≤ 9
     word_few = go (judged (time_in f))
       where
-        is : (t : Time) → time_read (time_in f) ≡ t → t.corrected ≤ 9 → (time_read (time_in f)).corrected ≤ 9
-        is t e h = subst (λ (x : Time). x.corrected ≤ 9) (sym e) h
+        is : (t : Result Time Refusal) → time_read (time_in f) ≡ t → corrected_read t ≤ 9 → corrected_read (time_read (time_in f)) ≤ 9
+        is t e h = subst (λ (x : Result Time Refusal). corrected_read x ≤ 9) (sym e) h
 
-        go : Judged (time_in f) → (time_read (time_in f)).corrected ≤ 9
+        go : Judged (time_in f) → corrected_read (time_read (time_in f)) ≤ 9
         go (wrong_length l r) = is _ r (omega arith)
         go (wrong_byte l b r) = is _ r (omega arith)
         go (time_missing l b far r) = is _ r (omega arith)
         go (a_time l b toi places t r) = is (time_is toi places) r t.near
 
-    few : (a : Answer) → (frame_by a (contents_in f) (time_read (time_in f)).corrected).corrected ≤ 9
-    few (Ok tt) = word_few
+    few : (a : Answer) → frame_corrected (given_by a (frame_is (contents_in f) (corrected_read (time_read (time_in f))))) ≤ 9
+    few (Ok u) = word_few
     few (Err r) = omega arith
 
 -- l1c_read_time: the answer.
@@ -88,8 +89,8 @@ sheet_told s zs =
     short : lengths ≡ true → length s < HALF
     short e = ltb-true (length s) HALF ((and-eq-true_iff (ltb (length s) HALF) (eqb (length zs) NUMBERS)).0 e).0
 
-    few : (a : Answer) → (sheet_by a (numbers_in (lines_in (lines_bytes s))) (start_of s)).before ≤ length s
-    few (Ok tt) = start_within s
+    few : (a : Answer) → sheet_before (sheet_by a (numbers_in (lines_in (lines_bytes s))) (start_of s)) ≤ length s
+    few (Ok u) = start_within s
     few (Err r) = omega arith
 
 -- l1c_write_sheet: the answer, and the sheet's length.

@@ -18,7 +18,7 @@ use Rattle.frames.proofs.Laws.Verdicts.{frame_due_refused, frame_verdict, alone_
 use Rattle.words.specs.Refusal.{Answer, answer_of, given_by, refused_at}
 
 answer_by_lem : (a : Answer) (c : Contents) (corrected : ℕ) → answer_of (given_by a (frame_is c corrected)) ≡ a
-answer_by_lem (Ok tt) c corrected = refl
+answer_by_lem (Ok _) c corrected = refl
 answer_by_lem (Err r) c corrected = refl
 
 -- Reading a frame refuses with number n at p exactly where that is due.

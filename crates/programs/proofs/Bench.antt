@@ -3,10 +3,8 @@
 use Rattle.std.specs.Prelude.{◌≡◌, ◌↔◌, List, [], ◌∷◌, ℕ, ◌+◌, ◌<◌, get_or}
 use Rattle.std.proofs.Common.{sym, ap, ◌∙◌, arith}
 use Rattle.words.specs.Bits.{IsBits}
-use Rattle.words.specs.Refusal.{NAME, refused_at, in_turn}
+use Rattle.words.specs.Refusal.{NAME, refused_at, in_turn, Answer, Done}
 use Rattle.words.specs.Laws.Digits.{first_is_bit}
-use Rattle.words.specs.declared.refusal.Answer.{Answer}
-use Rattle.words.specs.declared.refusal.Answer.TheVariants.{Done}
 use Rattle.frames.specs.Frame.{Contents, frame_of}
 use Rattle.frames.specs.Build.{contents_answer}
 use Rattle.frames.specs.Built.{built_right, is_built}

@@ -1,6 +1,6 @@
 -- THEOREMS: the way back. The bench program gives the frame back for what it printed, and the other way round.
 -- Assumes nothing.
-use Rattle.std.specs.Prelude.{◌≡◌, refl, List, ℕ, ◌≤◌}
+use Rattle.std.specs.Prelude.{◌≡◌, refl, List, ℕ, ◌≤◌, Ok}
 use Rattle.std.proofs.Common.{ap, ◌∙◌}
 use Rattle.words.specs.Sums.{differing}
 use Rattle.frames.specs.Frame.{Contents, ordered_in, frame_of}
@@ -13,14 +13,14 @@ use Rattle.programs.proofs.Bench.{frame_printed}
 use Rattle.programs.specs.Laws.Texts.{input_right, contents_after}
 use Rattle.programs.specs.WayBack.{sheet_printed}
 
-reads_as : (f : List ℕ) (c : Contents) (places : ℕ) → frame_read f ≡ frame_is c places → IsFrameLine c places (symbol_line f)
+reads_as : (f : List ℕ) (c : Contents) (places : ℕ) → frame_read f ≡ Ok (frame_is c places) → IsFrameLine c places (symbol_line f)
 reads_as f c places e =
     let both = (read_exactly f c places).0 e in
     record { symbols = f; text = refl; good = both.0; readable = both.1 }
 
 -- Given what was printed for a frame, without its first line, the bench program prints the frame again, but for the time symbols that were
 -- corrected; their number is the one in the first line.
-pub frame_back : (f : List ℕ) (c : Contents) (places : ℕ) → frame_read f ≡ frame_is c places
+pub frame_back : (f : List ℕ) (c : Contents) (places : ℕ) → frame_read f ≡ Ok (frame_is c places)
     → (printed_sheet (symbol_line f) ≡ contents_text c places)
     × (printed_frame (after_first (printed_sheet (symbol_line f))) ≡ symbol_line (frame_of c))
     × (ordered_in (frame_of c) ≡ ordered_in f) × (differing f (frame_of c) ≡ places) × (places ≤ 9)

@@ -3,14 +3,13 @@
 -- Assumes nothing.
 use Rattle.std.specs.Prelude.{◌≡◌, List, ◌++◌, ℕ, ◌+◌, eqb, leb, ltb, ℤ, pos, length, get_or, take, drop}
 use Rattle.std.specs.Int.Signed.{mag}
-use Rattle.words.specs.Refusal.{LENGTH, TRAILER, done_if, in_turn}
-use Rattle.words.specs.declared.refusal.Answer.{Answer}
+use Rattle.words.specs.Refusal.{LENGTH, TRAILER, done_if, in_turn, Answer}
 use Rattle.fields.specs.Pages.{PAGE_BITS}
 use Rattle.frames.specs.Frame.{Contents, GoodContents, IsFrame, frame_of}
 use Rattle.frames.specs.Build.{contents_of, contents_answer}
 use Rattle.sheets.specs.Text.{LINE_END, index_of}
 use Rattle.sheets.specs.Trailer.{start_of}
-use Rattle.sheets.specs.Sheet.{IsSheet, sheet_answer, sheet_read}
+use Rattle.sheets.specs.Sheet.{IsSheet, sheet_answer, sheet_read, sheet_numbers}
 use Rattle.sheets.specs.Contents.{numbers_of}
 use Rattle.programs.specs.Symbols.{symbols_in, symbols_answer}
 use Rattle.programs.specs.Output.{symbol_line, text_by}
@@ -54,7 +53,7 @@ carried_contents zs page = contents_of (mag (get_or zs 0 (pos 0))) (drop 1 zs) p
 
 -- those of the sheet in the bytes after the page line
 abbrev pub sheet_contents : List ℕ → List ℕ → Contents
-sheet_contents page bytes = carried_contents (sheet_read bytes).numbers page
+sheet_contents page bytes = carried_contents (sheet_numbers (sheet_read bytes)) page
 
 -- judging those bytes: 10 at 0 unless the sheet begins right there, then the sheet, then the frame
 abbrev pub behind_answer : List ℕ → List ℕ → Answer

@@ -2,9 +2,8 @@
 -- that the bench program would take; or the first refusal.
 -- Assumes nothing.
 use Rattle.std.specs.Prelude.{◌≡◌, List, ◌∷◌, ◌++◌, ℕ, ◌-◌, eqb, length, get_or, take}
-use Rattle.words.specs.Refusal.{LENGTH, done_if, in_turn}
-use Rattle.words.specs.Time.{time_read}
-use Rattle.words.specs.declared.refusal.Answer.{Answer}
+use Rattle.words.specs.Refusal.{LENGTH, done_if, in_turn, Answer}
+use Rattle.words.specs.Time.{time_read, corrected_read}
 use Rattle.frames.specs.Frame.{Contents, GoodContents, ReadableAs, FRAME, time_in}
 use Rattle.frames.specs.Read.{frame_answer, contents_in}
 use Rattle.sheets.specs.Text.{LINE_END, bytes_in}
@@ -44,7 +43,7 @@ frame_line_answer input =
 
 -- what is printed for symbols: what stands in them, or the refusal of reading them
 unfoldable pub frame_text : List ℕ → List ℕ
-frame_text f = text_by (frame_answer f) (contents_text (contents_in f) (time_read (time_in f)).corrected)
+frame_text f = text_by (frame_answer f) (contents_text (contents_in f) (corrected_read (time_read (time_in f))))
 
 -- judging the input: the line, then the frame
 unfoldable pub frame_input_answer : List ℕ → Answer
@@ -54,4 +53,4 @@ frame_input_answer input = in_turn (frame_line_answer input) (frame_answer (symb
 unfoldable pub printed_sheet : List ℕ → List ℕ
 printed_sheet input =
     text_by (frame_input_answer input)
-    (contents_text (contents_in (symbols_in (frame_line input))) (time_read (time_in (symbols_in (frame_line input)))).corrected)
+    (contents_text (contents_in (symbols_in (frame_line input))) (corrected_read (time_read (time_in (symbols_in (frame_line input))))))

@@ -1,8 +1,7 @@
 -- Symbols as characters (document 01, "The bench program"): each is the character 0 or 1.
 -- Assumes nothing.
 use Rattle.std.specs.Prelude.{Bool, cond, ◌&&◌, List, [], ◌∷◌, ℕ, suc, ◌+◌, ◌-◌, eqb, leb, length}
-use Rattle.words.specs.Refusal.{LENGTH, NOT_A_BIT, done_if, in_turn}
-use Rattle.words.specs.declared.refusal.Answer.{Answer}
+use Rattle.words.specs.Refusal.{LENGTH, NOT_A_BIT, done_if, in_turn, Answer}
 
 -- the character 0; the character 1 is the next
 abbrev pub ZERO : ℕ

@@ -2,10 +2,8 @@
 -- Assumes nothing.
 use Rattle.std.specs.Prelude.{◌≡◌, ◌↔◌, List, ℕ, get_or}
 use Rattle.std.proofs.Common.{sym, ap, ap₂, ◌∙◌, subst, arith}
-use Rattle.words.specs.Refusal.{refused_at}
-use Rattle.words.specs.Time.{time_read}
-use Rattle.words.specs.declared.refusal.Answer.{Answer}
-use Rattle.words.specs.declared.refusal.Answer.TheVariants.{Done}
+use Rattle.words.specs.Refusal.{refused_at, Answer, Done}
+use Rattle.words.specs.Time.{time_read, corrected_read}
 use Rattle.frames.specs.Frame.{Contents, GoodContents, time_in}
 use Rattle.frames.specs.Read.{contents_in}
 use Rattle.frames.specs.Due.{RefusesWith}
@@ -24,7 +22,7 @@ abbrev pub DoneWith : Contents → ℕ → List ℕ → Type 0
 DoneWith c places input =
     (frame_input_answer input ≡ Done)
     × (contents_in (symbols_in (frame_line input)) ≡ c)
-    × ((time_read (time_in (symbols_in (frame_line input)))).corrected ≡ places)
+    × (corrected_read (time_read (time_in (symbols_in (frame_line input)))) ≡ places)
 
 -- That is so exactly if the input is the symbols of a frame that stands for these contents, with so many of its time symbols to correct.
 pub line_exactly : (c : Contents) (places : ℕ) (input : List ℕ) → DoneWith c places input ↔ IsFrameLine c places input
@@ -42,13 +40,13 @@ line_exactly c places input = (to, from)
         let read = read_is is.symbols c places (reads c places input is) in (
           reads_done c places input is,
           ap contents_in same ∙ read.1,
-          ap (λ (l : List ℕ). (time_read (time_in l)).corrected) same ∙ read.2,
+          ap (λ (l : List ℕ). corrected_read (time_read (time_in l))) same ∙ read.2,
         )
 
 -- ---- what is printed
 
 abbrev when_done : List ℕ → List ℕ
-when_done input = contents_text (contents_in (symbols_in (frame_line input))) (time_read (time_in (symbols_in (frame_line input)))).corrected
+when_done input = contents_text (contents_in (symbols_in (frame_line input))) (corrected_read (time_read (time_in (symbols_in (frame_line input)))))
 
 -- For the symbols of a frame that is read, its contents are printed, with the number of symbols corrected.
 pub sheet_printed : (c : Contents) (places : ℕ) (input : List ℕ) → IsFrameLine c places input → printed_sheet input ≡ contents_text c places
@@ -74,8 +72,8 @@ sheet_exactly c places input good = (λ e. to (frame_input_verdict input) e, she
     to (fine done) e =
         let f = symbols_in (frame_line input) in
         let is = done_reads_as input done in
-        let same = texts_differ (contents_in f) c (time_read (time_in f)).corrected places is.good good
-        (sym (sheet_printed (contents_in f) (time_read (time_in f)).corrected input is) ∙ e) in
+        let same = texts_differ (contents_in f) c (corrected_read (time_read (time_in f))) places is.good good
+        (sym (sheet_printed (contents_in f) (corrected_read (time_read (time_in f))) input is) ∙ e) in
         subst (λ (x : Contents). IsFrameLine x places input) same.0 (subst (λ (k : ℕ). IsFrameLine (contents_in f) k input) same.1 is)
     to (due n p d) e = absurd (no_refusal c places n p (sym (refused_text input n p (frame_input_refused input n p d).0) ∙ e))
 

@@ -18,24 +18,24 @@ use sheets::sheet::read_sheet;
 use sheets::text::find;
 use sheets::trailer::sheet_start;
 use words::bits::magnitude;
-use words::refusal::{Answer, LENGTH, TRAILER, refuse};
+use words::refusal::{Refusal, Rule};
 
 // The page bits of the first line. Refused 1 at 0 where it has no newline or another length, 2 at the first character that is neither `0`
 // nor `1`.
-fn take_page_line(input: &[u8], page: &mut [u8]) -> Answer
+fn take_page_line(input: &[u8], page: &mut [u8]) -> Result<(), Refusal>
     requires { length page.old ≡ PAGE_BITS }
     ensures { (result ≡ page_line_answer input.now)
         × (page.new ≡ left_by (page_line_answer input.now) (symbols_in (first_line input.now)) page.old) }
 {
     let end = find(input, b'\n');
     if end == input.len() {
-        return refuse(LENGTH, 0);
+        return Err(Rule::Length.at(0));
     }
     take_symbols(&input[..end], page)
 }
 
 // The frame of a sheet's numbers, toi's first, and of a page.
-fn build_numbers(numbers: [i64; 34], page: &[u8], frame: &mut [u8]) -> Answer
+fn build_numbers(numbers: [i64; 34], page: &[u8], frame: &mut [u8]) -> Result<(), Refusal>
     requires { (mag (get_or numbers 0 (pos 0)) ≤ LAST_TOI) × (length page.now ≡ PAGE_BITS) × IsBits page.now
         × (length frame.old ≡ FRAME) }
     ensures { (result ≡ contents_answer (carried_contents numbers page.now))
@@ -47,7 +47,7 @@ fn build_numbers(numbers: [i64; 34], page: &[u8], frame: &mut [u8]) -> Answer
 }
 
 // The frame of the sheet behind the page line. Refused 10 at 0 where it does not begin right there, then as the sheet, then as the frame.
-fn build_behind(page: &[u8], bytes: &[u8], frame: &mut [u8]) -> Answer
+fn build_behind(page: &[u8], bytes: &[u8], frame: &mut [u8]) -> Result<(), Refusal>
     requires { (length page.now ≡ PAGE_BITS) × IsBits page.now × (length frame.old ≡ FRAME) }
     ensures { (result ≡ behind_answer page.now bytes.now)
         × (frame.new ≡ left_by (behind_answer page.now bytes.now)
@@ -56,34 +56,25 @@ fn build_behind(page: &[u8], bytes: &[u8], frame: &mut [u8]) -> Answer
     let start = sheet_start(bytes);
     let elsewhere = start != 0;
     if elsewhere {
-        return refuse(TRAILER, 0);
+        return Err(Rule::Trailer.at(0));
     }
-    let sheet = read_sheet(bytes);
-    let answer = sheet.answer;
-    match answer {
-        Answer::Refused(r) => refuse(r.number, r.place),
-        Answer::Done => {
-            let numbers = sheet.numbers;
-            build_numbers(numbers, page, frame)
-        }
-    }
+    let sheet = read_sheet(bytes)?;
+    build_numbers(sheet.numbers, page, frame)
 }
 
 // The frame of the input, judged in turn: over 8192 bytes, the page line, the sheet, the frame.
-fn build_input(input: &[u8], frame: &mut [u8]) -> Answer
+fn build_input(input: &[u8], frame: &mut [u8]) -> Result<(), Refusal>
     requires { length frame.old ≡ FRAME }
     ensures { (result ≡ input_answer input.now)
         × (frame.new ≡ left_by (input_answer input.now) (frame_of (input_contents input.now)) frame.old) }
 {
     let too_long = 8192 < input.len();
     if too_long {
-        return refuse(LENGTH, 0);
+        return Err(Rule::Length.at(0));
     }
     let mut page = [0u8; 250];
-    match take_page_line(input, &mut page) {
-        Answer::Refused(r) => refuse(r.number, r.place),
-        Answer::Done => build_behind(&page, &input[251..], frame),
-    }
+    take_page_line(input, &mut page)?;
+    build_behind(&page, &input[251..], frame)
 }
 
 // The symbols of a frame, as characters, and a newline.
@@ -102,7 +93,7 @@ pub fn print_frame(input: &[u8]) -> Output
 {
     let mut frame = [0u8; 1800];
     match build_input(input, &mut frame) {
-        Answer::Refused(r) => refusal_output(r.number, r.place),
-        Answer::Done => frame_output(&frame),
+        Ok(()) => frame_output(&frame),
+        Err(refusal) => refusal_output(refusal),
     }
 }

@@ -10,6 +10,7 @@ ghost use Rattle.programs.specs.Output.{OUTPUT_BYTES, symbol_line, refusal_text,
 
 use super::symbols::set_characters;
 use sheets::write::{write_decimal, write_sheet};
+use words::refusal::Refusal;
 
 // The bytes printed, with zeros behind them, and how many they are.
 #[derive(Clone, Copy)]
@@ -48,8 +49,7 @@ impl Output {
         ensures size { self.new.size ≡ self.old.size + length (decimal number) }
         ensures bytes { self.new.bytes ≡ sets self.old.bytes self.old.size (decimal number) }
     {
-        let written = write_decimal(number, &mut self.bytes[self.size..]);
-        self.size += written.size;
+        self.size += write_decimal(number, &mut self.bytes[self.size..]).unwrap();
     }
 
     // Puts symbols behind it, as characters, and a newline.
@@ -73,20 +73,19 @@ impl Output {
         ensures size { self.new.size ≡ self.old.size + length (sheet_text numbers.now) }
         ensures bytes { self.new.bytes ≡ sets self.old.bytes self.old.size (sheet_text numbers.now) }
     {
-        let written = write_sheet(numbers, &mut self.bytes[self.size..]);
-        self.size += written.size;
+        self.size += write_sheet(numbers, &mut self.bytes[self.size..]).unwrap();
     }
 }
 
 // `refused N at P` and a newline.
-pub(crate) fn refusal_output(number: u8, place: usize) -> Output
-    ensures { (result ≡ output_of (refusal_text number place)) × (result.size ≤ OUTPUT_BYTES) }
+pub(crate) fn refusal_output(refusal: Refusal) -> Output
+    ensures { (result ≡ output_of (refusal_text refusal.number refusal.place)) × (result.size ≤ OUTPUT_BYTES) }
 {
     let mut output = Output::new();
     output.put(b"refused ");
-    output.put_number(number as u64);
+    output.put_number(refusal.number as u64);
     output.put(b" at ");
-    output.put_number(place as u64);
+    output.put_number(refusal.place as u64);
     output.put(b"\n");
     output
 }

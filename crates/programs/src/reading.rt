@@ -10,21 +10,21 @@ ghost use Rattle.programs.specs.Reading.{frame_line, frame_line_answer, contents
 use super::output::{Output, refusal_output};
 use super::symbols::take_symbols;
 use frames::read::{Frame, read};
-use words::refusal::{Answer, LENGTH, refuse};
+use words::refusal::{Refusal, Rule};
 
 // The symbols of the input, all but its newline. Refused 1 at 0 for another length or without its newline, 2 at the first character that
 // is neither `0` nor `1`.
-fn take_frame_line(input: &[u8], frame: &mut [u8]) -> Answer
+fn take_frame_line(input: &[u8], frame: &mut [u8]) -> Result<(), Refusal>
     requires { length frame.old ≡ FRAME }
     ensures { (result ≡ frame_line_answer input.now)
         × (frame.new ≡ left_by (frame_line_answer input.now) (symbols_in (frame_line input.now)) frame.old) }
 {
     let Some((last, line)) = input.split_last() else {
-        return refuse(LENGTH, 0);
+        return Err(Rule::Length.at(0));
     };
     let unended = *last != b'\n';
     if unended {
-        return refuse(LENGTH, 0);
+        return Err(Rule::Length.at(0));
     }
     take_symbols(line, frame)
 }
@@ -59,11 +59,9 @@ fn contents_output(frame: Frame) -> Output
 fn frame_contents(symbols: &[u8]) -> Output
     ensures { (result ≡ output_of (frame_text symbols.now)) × (result.size ≤ OUTPUT_BYTES) }
 {
-    let frame = read(symbols);
-    let answer = frame.answer;
-    match answer {
-        Answer::Refused(r) => refusal_output(r.number, r.place),
-        Answer::Done => contents_output(frame),
+    match read(symbols) {
+        Ok(frame) => contents_output(frame),
+        Err(refusal) => refusal_output(refusal),
     }
 }
 
@@ -74,7 +72,7 @@ pub fn print_sheet(input: &[u8]) -> Output
 {
     let mut symbols = [0u8; 1800];
     match take_frame_line(input, &mut symbols) {
-        Answer::Refused(r) => refusal_output(r.number, r.place),
-        Answer::Done => frame_contents(&symbols),
+        Ok(()) => frame_contents(&symbols),
+        Err(refusal) => refusal_output(refusal),
     }
 }

@@ -4,7 +4,7 @@ ghost use Rattle.words.specs.Bits.{IsBits};
 ghost use Rattle.words.specs.Refusal.{left_by};
 ghost use Rattle.programs.specs.Symbols.{is_symbol, first_other, symbols_in, characters_of, symbols_answer};
 
-use words::refusal::{Answer, LENGTH, NOT_A_BIT, refuse};
+use words::refusal::{Refusal, Rule};
 
 // The character is `0` or `1`.
 fn is_symbol(character: u8) -> bool
@@ -35,20 +35,20 @@ fn set_symbols(characters: &[u8], symbols: &mut [u8])
 
 // The symbols that characters stand for, into as many bytes. Refused 1 at 0 for another length, 2 at the first character that is neither
 // `0` nor `1`.
-pub(crate) fn take_symbols(characters: &[u8], symbols: &mut [u8]) -> Answer
+pub(crate) fn take_symbols(characters: &[u8], symbols: &mut [u8]) -> Result<(), Refusal>
     ensures { (result ≡ symbols_answer (length symbols.old) characters.now)
         × (symbols.new ≡ left_by (symbols_answer (length symbols.old) characters.now)
         (symbols_in characters.now) symbols.old) }
 {
     if characters.len() != symbols.len() {
-        return refuse(LENGTH, 0);
+        return Err(Rule::Length.at(0));
     }
     let other = first_other(characters);
     if other != characters.len() {
-        return refuse(NOT_A_BIT, other);
+        return Err(Rule::NotABit.at(other));
     }
     set_symbols(characters, symbols);
-    Answer::Done
+    Ok(())
 }
 
 // Writes symbols as characters over as many bytes.

@@ -110,7 +110,7 @@ answer_of (Err r) = Err r
 
 -- what is given by an answer: this where nothing is refused, and else the refusal
 abbrev pub given_by : {A : Type 0} → Answer → A → Result A Refusal
-given_by (Ok tt) x = Ok x
+given_by (Ok _) x = Ok x
 given_by (Err r) x = Err r
 
 -- done where the test holds, and else the refusal with this number, at this place
@@ -124,7 +124,7 @@ list_given (Err r) = []
 
 -- judged in turn: the first refusal of the two, and where neither refuses what the second gives
 abbrev pub in_turn : {A : Type 0} → Answer → Result A Refusal → Result A Refusal
-in_turn (Ok tt) next = next
+in_turn (Ok _) next = next
 in_turn (Err r) next = Err r
 
 -- how lent bytes are judged before anything is done with them: 1 at 0 unless the lengths are right, then 2 at the first byte that is
@@ -139,15 +139,15 @@ left_if false new l = l
 
 -- the same by an answer: the new bytes where nothing is refused, and else the bytes as they were
 abbrev pub left_by : Answer → List ℕ → List ℕ → List ℕ
-left_by (Ok tt) new l = new
+left_by (Ok _) new l = new
 left_by (Err r) new l = l
 
 -- the table's number of an answer, 0 where nothing was refused
 abbrev pub number_of : Answer → ℕ
-number_of (Ok tt) = 0
+number_of (Ok _) = 0
 number_of (Err r) = r.number
 
 -- the table's place of an answer, 0 where nothing was refused
 abbrev pub place_of : Answer → ℕ
-place_of (Ok tt) = 0
+place_of (Ok _) = 0
 place_of (Err r) = r.place

@@ -17,7 +17,7 @@ refused_stay false bits first_not new l h = refl
 
 -- Where bytes are left by an answer that refuses, they are as they were.
 pub refused_by_answer : (a : Answer) (new l : List ℕ) → Refuses a → left_by a new l ≡ l
-refused_by_answer (Ok tt) new l h = absurd (h refl)
+refused_by_answer (Ok _) new l h = absurd (h refl)
 refused_by_answer (Err r) new l h = refl
 
 -- Where writing a time is refused, the bytes are as they were.

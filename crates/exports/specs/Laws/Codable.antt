@@ -18,7 +18,7 @@ test_codable true n p some fits = done_codable
 test_codable false n p some fits = record { numbered = test_numbered false n p some; low = fits refl }
 
 pub turn_codable : (a b : Answer) → Codable a → Codable b → Codable (in_turn a b)
-turn_codable (Ok tt) b ha hb = hb
+turn_codable (Ok _) b ha hb = hb
 turn_codable (Err r) b ha hb = ha
 
 -- what is judged later only counts where the test before it holds
@@ -35,7 +35,7 @@ judged_codable false bits first a fits ha = record { numbered = λ e. absurd (om
 
 -- so what is returned reports such an answer, where what is said fits in 32 bits
 pub code_reports : (a : Answer) (said : ℕ) → Codable a → (a ≡ Done → said < HALF) → Reports (code_of a said) a said
-code_reports (Ok tt) said h fits =
+code_reports (Ok _) said h fits =
     let small : said < HALF = fits refl in
     record { number = omega arith; none = λ e. refl; low = omega arith }
 code_reports (Err r) said h fits =

@@ -1,12 +1,12 @@
 -- What the calls on frames answer is reported by their numbers.
 -- Assumes nothing.
 use Rattle.std.specs.Prelude.{◌≡◌, Bool, true, false, cond, ◌&&◌, List, [], ◌∷◌, ℕ, zero, suc, ◌+◌, ◌%◌, ◌≤◌, ◌<◌, eqb, leb, ℤ, length, take, Err, Ok}
-use Rattle.std.proofs.Common.{sym, subst, arith, eqb-true}
+use Rattle.std.proofs.Common.{sym, subst, arith, eqb-true, Result}
 use Rattle.std.proofs.Math.Bool.{and-eq-true_iff}
 use Rattle.words.specs.Bits.{first_not_bit}
 use Rattle.words.specs.Crc.{remainder_of}
-use Rattle.words.specs.Refusal.{LENGTH, NOT_A_BIT, TIME, FIELD_2, FIELD_3, done_if, in_turn, Answer, Done, answer_of}
-use Rattle.words.specs.Time.{LAST_TOI, time_is, no_time, time_read}
+use Rattle.words.specs.Refusal.{LENGTH, NOT_A_BIT, TIME, FIELD_2, FIELD_3, done_if, in_turn, Answer, Done, answer_of, refused_at}
+use Rattle.words.specs.Time.{LAST_TOI, time_is, time_read, corrected_read}
 use Rattle.words.specs.declared.time.Time.{Time}
 use Rattle.words.specs.Laws.Digits.{not_bit_le}
 use Rattle.words.specs.Laws.Judged.{Judged, wrong_length, wrong_byte, time_missing, a_time, judged}
@@ -25,10 +25,12 @@ use Rattle.fields.specs.declared.table.Table.{Table}
 use Rattle.fields.specs.declared.table.Table.TheVariants.{Subframe2}
 use Rattle.frames.specs.Frame.{Contents, FRAME, time_in, subframe_in, bits_before}
 use Rattle.frames.specs.Build.{build_lengths, contents_answer, build_answer}
-use Rattle.frames.specs.Read.{check_number, check_bits_answer, ranges_answer, subframe_answer, frame_judged, frame_answer, contents_in, frame_by, frame_read, time_by, time_alone, alone_answer}
+use Rattle.frames.specs.Read.{check_number, check_bits_answer, ranges_answer, subframe_answer, frame_judged, frame_answer, contents_in, frame_is, frame_read, time_alone, alone_answer}
 use Rattle.frames.specs.Laws.Reading.{alone_is}
 use Rattle.exports.specs.Code.{HALF}
 use Rattle.exports.specs.Laws.Codable.{Codable, done_codable, test_codable, turn_codable, judged_codable}
+use Rattle.words.specs.declared.refusal.Refusal.{Refusal}
+use Rattle.words.specs.Laws.Turns.{given_answer}
 
 -- ---- places
 
@@ -113,14 +115,14 @@ subframe_codable s block =
 time_codable : (s : List ℕ) → Codable (answer_of (time_read s))
 time_codable s = go (judged s)
   where
-    is : (t : Time) → time_read s ≡ t → Codable (answer_of t) → Codable (answer_of (time_read s))
-    is t e h = subst (λ (x : Time). Codable (answer_of x)) (sym e) h
+    is : (t : Result Time Refusal) → time_read s ≡ t → Codable (answer_of t) → Codable (answer_of (time_read s))
+    is t e h = subst (λ (x : Result Time Refusal). Codable (answer_of x)) (sym e) h
 
     go : Judged s → Codable (answer_of (time_read s))
-    go (wrong_length l r) = is (no_time LENGTH 0) r (test_codable false LENGTH 0 (λ e. omega arith) (λ e. omega arith))
+    go (wrong_length l r) = is (refused_at LENGTH 0) r (test_codable false LENGTH 0 (λ e. omega arith) (λ e. omega arith))
     go (wrong_byte l b r) =
-        is (no_time NOT_A_BIT (first_not_bit s)) r (test_codable false NOT_A_BIT (first_not_bit s) (λ e. omega arith) (λ e. omega arith))
-    go (time_missing l b far r) = is (no_time TIME 0) r (test_codable false TIME 0 (λ e. omega arith) (λ e. omega arith))
+        is (refused_at NOT_A_BIT (first_not_bit s)) r (test_codable false NOT_A_BIT (first_not_bit s) (λ e. omega arith) (λ e. omega arith))
+    go (time_missing l b far r) = is (refused_at TIME 0) r (test_codable false TIME 0 (λ e. omega arith) (λ e. omega arith))
     go (a_time l b toi places t r) = is (time_is toi places) r done_codable
 
 lent_codable : (f : List ℕ) (a : Answer) → Codable a → Codable (frame_judged f a)
@@ -144,7 +146,7 @@ build_codable c out =
         eqb-true (length c.page) PAGE_BITS ((and-eq-true_iff (eqb (length c.page) PAGE_BITS) (eqb (length out) FRAME)).0 behind.1).0
 
 pub read_codable : (f : List ℕ) → Codable (answer_of (frame_read f))
-read_codable f = go (frame_answer f) whole
+read_codable f = subst Codable (sym (given_answer (frame_answer f) (frame_is (contents_in f) (corrected_read (time_read (time_in f)))))) whole
   where
     two : Answer
     two = subframe_answer Two (subframe_in Two f)
@@ -158,15 +160,11 @@ read_codable f = go (frame_answer f) whole
         (turn_codable (answer_of (time_read (time_in f))) (in_turn two three) (time_codable (time_in f))
         (turn_codable two three (subframe_codable Two (subframe_in Two f)) (subframe_codable Three (subframe_in Three f))))
 
-    go : (a : Answer) → Codable a → Codable (answer_of (frame_by a (contents_in f) (time_read (time_in f)).corrected))
-    go (Ok tt) h = h
-    go (Err r) h = h
-
 pub time_alone_codable : (f : List ℕ) → Codable (answer_of (time_alone f))
 time_alone_codable f = go (frame_judged f Done) (lent_codable f Done done_codable)
   where
-    go : (a : Answer) → Codable a → Codable (answer_of (time_by a (time_read (time_in f))))
-    go (Ok tt) h = time_codable (time_in f)
+    go : (a : Answer) → Codable a → Codable (answer_of (in_turn a (time_read (time_in f))))
+    go (Ok _) h = time_codable (time_in f)
     go (Err r) h = h
 
 pub alone_codable : (s : Subframe) (f : List ℕ) → Codable (alone_answer s f)

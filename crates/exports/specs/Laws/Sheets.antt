@@ -1,19 +1,19 @@
 -- What the calls on sheets answer is reported by their numbers.
 -- Assumes nothing.
-use Rattle.std.specs.Prelude.{◌≡◌, refl, Bool, true, false, cond, not, List, [], ◌∷◌, ◌++◌, ℕ, suc, ◌+◌, ◌≤◌, ◌<◌, eqb, leb, ℤ, pos, length, get_or, drop, Err, Ok}
+use Rattle.std.specs.Prelude.{◌≡◌, Bool, true, false, cond, not, List, [], ◌∷◌, ◌++◌, ℕ, suc, ◌+◌, ◌≤◌, ◌<◌, eqb, leb, ℤ, pos, length, get_or, drop, Err, Ok}
 use Rattle.std.proofs.Common.{sym, ap, ◌∙◌, subst, arith, length-append, eqb-true}
-use Rattle.words.specs.Refusal.{LENGTH, TIME, LINE, NAME, NAME_AGAIN, NUMBER, NAME_MISSING, TRAILER, ROOM, done_if, in_turn, Answer, Done, answer_of}
-use Rattle.words.specs.Laws.Turns.{both_done, test_done}
+use Rattle.words.specs.Refusal.{given_by, LENGTH, TIME, LINE, NAME, NAME_AGAIN, NUMBER, NAME_MISSING, TRAILER, ROOM, done_if, in_turn, Answer, Done, answer_of}
+use Rattle.words.specs.Laws.Turns.{both_done, test_done, given_answer}
 use Rattle.fields.specs.Table.{no_field}
 use Rattle.fields.specs.Counts.{in_range}
 use Rattle.fields.specs.Subframe2.{counts_answer}
 use Rattle.sheets.specs.Text.{LINE_END, ended_by, after_last}
 use Rattle.sheets.specs.List.{NUMBERS, sheet_names, sheet_fields}
-use Rattle.sheets.specs.Lines.{has_equals, name_in, behind_equals, is_listed, field_named, is_given, given_in, line_answer, first_missing, missing_answer, lines_answer, lines_in, numbers_in, body_answer}
+use Rattle.sheets.specs.Lines.{has_equals, name_in, behind_equals, is_listed, field_named, is_given, given_in, line_answer, first_missing, missing_answer, lines_answer, lines_in, body_answer}
 use Rattle.sheets.specs.Number.{is_number_of}
-use Rattle.sheets.specs.Trailer.{has_trailer, start_of, lines_bytes}
-use Rattle.sheets.specs.Sheet.{sheet_answer, sheet_by, sheet_read}
-use Rattle.sheets.specs.Write.{sheet_text, numbers_answer, room_answer, write_answer, written_by, sheet_written}
+use Rattle.sheets.specs.Trailer.{has_trailer, lines_bytes}
+use Rattle.sheets.specs.Sheet.{sheet_answer, sheet_read}
+use Rattle.sheets.specs.Write.{sheet_text, numbers_answer, room_answer, write_answer, sheet_written, size_written}
 use Rattle.sheets.specs.Laws.Text.{parts_back}
 use Rattle.sheets.specs.Laws.Lengths.{sheet_short}
 use Rattle.sheets.specs.Laws.Lines.{given_many}
@@ -75,20 +75,12 @@ body_codable l h = lines_codable [] 0 (lines_in l) (after_last LINE_END l) few
 
 pub sheet_codable : (s : List ℕ) → Codable (answer_of (sheet_read s))
 unfolding sheet_read
-sheet_codable s = go (sheet_answer s) (tested_codable (has_trailer s) TRAILER 0 (body_answer (lines_bytes s)) (λ e. omega arith) (omega arith)
+sheet_codable s = subst Codable (sym (given_answer (sheet_answer s) _)) (tested_codable (has_trailer s) TRAILER 0 (body_answer (lines_bytes s)) (λ e. omega arith) (omega arith)
     (λ e. body_codable (lines_bytes s) (omega (arith, trailer_few s e))))
-  where
-    go : (a : Answer) → Codable a → Codable (answer_of (sheet_by a (numbers_in (lines_in (lines_bytes s))) (start_of s)))
-    go (Ok tt) h = h
-    go (Err r) h = h
 
 pub written_answer : (zs : List ℤ) (out : List ℕ) → answer_of (sheet_written zs out) ≡ write_answer zs out
 unfolding sheet_written
-written_answer zs out = go (write_answer zs out)
-  where
-    go : (a : Answer) → answer_of (written_by a (length (sheet_text zs))) ≡ a
-    go (Ok tt) = refl
-    go (Err r) = refl
+written_answer zs out = given_answer (write_answer zs out) (length (sheet_text zs))
 
 pub written_codable : (zs : List ℤ) (out : List ℕ) → Codable (answer_of (sheet_written zs out))
 written_codable zs out =
@@ -106,8 +98,8 @@ pub written_few : (zs : List ℤ) (out : List ℕ) → answer_of (sheet_written 
 unfolding sheet_written
 written_few zs out done = go (write_answer zs out) (sym (written_answer zs out) ∙ done)
   where
-    go : (a : Answer) → write_answer zs out ≡ Done → (written_by a (length (sheet_text zs))).size ≤ 800
-    go (Ok tt) e =
+    go : (a : Answer) → write_answer zs out ≡ Done → size_written (given_by a (length (sheet_text zs))) ≤ 800
+    go (Ok _) e =
         let parts = both_done (done_if (eqb (length zs) NUMBERS) LENGTH 0) (in_turn (numbers_answer zs) (room_answer (sheet_text zs) out)) e in
         let numbers = both_done (numbers_answer zs) (room_answer (sheet_text zs) out) parts.1 in
         sheet_short zs (eqb-true (length zs) NUMBERS (test_done (eqb (length zs) NUMBERS) LENGTH 0 parts.0)) numbers.0

@@ -42,5 +42,5 @@ symbols_from toi bits page = time_word toi ++ interleaved (subframe_of Two bits 
 
 -- three answers in turn
 pub turns : (a b c : Answer) → in_turn (in_turn a b) c ≡ in_turn a (in_turn b c)
-turns (Ok tt) b c = refl
+turns (Ok _) b c = refl
 turns (Err r) b c = refl

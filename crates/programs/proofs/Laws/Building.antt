@@ -1,11 +1,10 @@
 -- The input of the bench program: what is refused is what is due, and what is not refused is right.
 -- Assumes nothing.
 use Rattle.std.specs.Prelude.{◌≡◌, refl, Bool, true, false, List, [], ◌⊎◌, ◌≢◌, ℕ, ◌≤◌, ◌<◌, eqb, ℤ, length}
-use Rattle.std.proofs.Common.{sym, ap₂, ◌∙◌, inl, inr, arith, eq-eqb, ne_eqb, le-leb, lt-ltb, le-ltb}
+use Rattle.std.proofs.Common.{sym, ap₂, ◌∙◌, inl, inr, arith, eq-eqb, ne_eqb, le-leb, lt-ltb, le-ltb, Result}
 use Rattle.std.proofs.Math.Path.{ap}
 use Rattle.std.proofs.lemmas.Bool.{lt-leb}
-use Rattle.words.specs.Refusal.{LENGTH, FIELD_3, TRAILER, refused_at, done_if, in_turn}
-use Rattle.words.specs.declared.refusal.Answer.{Answer}
+use Rattle.words.specs.Refusal.{LENGTH, FIELD_3, TRAILER, refused_at, done_if, in_turn, Answer, answer_of}
 use Rattle.tables.specs.Laws.Cases.{same_or_not, before_or_not}
 use Rattle.tables.specs.declared.matrix.Subframe.TheVariants.{Three}
 use Rattle.fields.specs.Pages.{PAGE_BITS, range_answer}
@@ -14,7 +13,7 @@ use Rattle.frames.specs.Laws.Due.{Verdict, fine, due, RangeView, ranges_fine, ra
 use Rattle.sheets.specs.Text.{LINE_END, index_of, ended_by}
 use Rattle.sheets.specs.Trailer.{has_trailer, start_of, lines_bytes}
 use Rattle.sheets.specs.Lines.{body_answer}
-use Rattle.sheets.specs.Sheet.{IsSheet, sheet_answer, sheet_is, sheet_read}
+use Rattle.sheets.specs.Sheet.{IsSheet, sheet_answer, sheet_is, sheet_read, sheet_numbers}
 use Rattle.sheets.specs.Due.{EndsWith}
 use Rattle.sheets.proofs.Laws.Reading.{is_read}
 use Rattle.sheets.specs.Laws.Verdicts.{ends_has, judged_lines}
@@ -25,6 +24,7 @@ use Rattle.programs.specs.Building.{MOST_INPUT, first_line, after_first, page_li
 use Rattle.programs.specs.Due.{SymbolsDue, HasNewline, RightPageLine, InputDue, long_due, newline_due, page_line_due, start_due, lines_due, page_due}
 use Rattle.programs.specs.Laws.Due.{symbols_due_refused, symbols_verdict, characters_done, done_characters}
 use Rattle.programs.specs.Laws.Building.{carried_answer, starts, starts_with, read_answer, done_sheet}
+use Rattle.words.specs.declared.refusal.Refusal.{Refusal}
 
 -- it does, or not
 data StartView (bytes : List ℕ) : Type 0 where
@@ -77,8 +77,8 @@ module _ (page bytes : List ℕ) where
   sheet_there zs is =
       let read : sheet_read bytes ≡ sheet_is zs 0 = is_read zs bytes is [] in
       starts_there (ended_by LINE_END is.lines) (record { text = is.text; few = is.few })
-      ∙ ap₂ (λ (a : Answer) (x : Sheet). in_turn a (contents_answer (carried_contents x.numbers page)))
-      (sym (read_answer bytes) ∙ ap (λ (x : Sheet). x.answer) read) read
+      ∙ ap₂ (λ (a : Answer) (x : Result Sheet Refusal). in_turn a (contents_answer (carried_contents (sheet_numbers x) page)))
+      (sym (read_answer bytes) ∙ ap answer_of read) read
       ∙ carried_answer zs page is.within_range
 
 -- ---- the input
@@ -144,7 +144,7 @@ module _ (input : List ℕ) where
       by_lines : RightPageLine input → (body : List ℕ) → EndsWith (after_first input) [] body → LinesView body → Verdict (input_answer input) (InputDue input)
       by_lines right body ends (nothing_due all) =
           let done = judged_lines (after_first input) [] body ends ∙ all_fine_done body all in
-          by_page right (sheet_read (after_first input)).numbers (done_sheet (after_first input) body ends done) (range_view Three page)
+          by_page right (sheet_numbers (sheet_read (after_first input))) (done_sheet (after_first input) body ends done) (range_view Three page)
       by_lines right body ends (something_due n p d) = due n p (lines_due n p body right ends d)
 
       by_start : RightPageLine input → StartView (after_first input) → Verdict (input_answer input) (InputDue input)

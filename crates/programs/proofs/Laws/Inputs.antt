@@ -4,9 +4,8 @@ use Rattle.std.specs.Prelude.{◌≡◌, ℕ, eqb, leb, ltb, ℤ, length}
 use Rattle.std.proofs.Math.Path.{sym, ap, ap₂}
 use Rattle.std.proofs.Common.{◌∙◌, eqb-true, ltb-true}
 use mathlib.Core.List.{List, ◌∷◌, ◌++◌}
-use Rattle.words.specs.Refusal.{LENGTH, TRAILER, done_if, in_turn}
+use Rattle.words.specs.Refusal.{LENGTH, TRAILER, done_if, in_turn, Done}
 use Rattle.words.specs.Laws.Turns.{both_done, test_done}
-use Rattle.words.specs.declared.refusal.Answer.TheVariants.{Done}
 use Rattle.fields.specs.Pages.{PAGE_BITS}
 use Rattle.frames.specs.Frame.{Contents}
 use Rattle.frames.specs.Build.{contents_answer}
@@ -14,7 +13,7 @@ use Rattle.frames.specs.Laws.Good.{page_done, done_page}
 use Rattle.sheets.specs.Text.{LINE_END, index_of}
 use Rattle.sheets.specs.Trailer.{has_trailer, start_of, lines_bytes}
 use Rattle.sheets.specs.Lines.{body_answer}
-use Rattle.sheets.specs.Sheet.{IsSheet, sheet_answer, sheet_read}
+use Rattle.sheets.specs.Sheet.{IsSheet, sheet_answer, sheet_read, sheet_numbers}
 use Rattle.sheets.specs.Contents.{numbers_of, CarriedBy}
 use Rattle.sheets.specs.Carried.{numbers_contents}
 use Rattle.programs.specs.Symbols.{first_other, symbols_in, symbols_answer}
@@ -65,7 +64,7 @@ module _ (input : List ℕ) (e : input_answer input ≡ Done) where
   by_sheet = both_done (sheet_answer bytes) (contents_answer (sheet_contents page bytes)) by_start.1
 
   abbrev zs : List ℤ
-  zs = (sheet_read bytes).numbers
+  zs = sheet_numbers (sheet_read bytes)
 
   is_sheet : IsSheet zs bytes
   is_sheet =

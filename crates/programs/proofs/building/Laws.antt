@@ -11,12 +11,10 @@ use lib.Seq.{take_all, length-take-le}
 use lib.Signed.{mag}
 use borrow.Author.Tests.{ltb-true, lt-ltb, le-ltb, le-leb, lt-leb, eq-eqb, ne_eqb}
 use Rattle.words.specs.Bits.{IsBits, first_not_bit}
-use Rattle.words.specs.Refusal.{LENGTH, TRAILER, refused_at, done_if, left_by}
+use Rattle.words.specs.Refusal.{LENGTH, TRAILER, refused_at, done_if, left_by, Answer, Done, answer_of}
 use Rattle.words.specs.Time.{LAST_TOI}
 use Rattle.words.specs.Laws.Digits.{bits_none}
 use Rattle.words.specs.Laws.Turns.{both_done, test_done, judged_on}
-use Rattle.words.specs.declared.refusal.Answer.{Answer}
-use Rattle.words.specs.declared.refusal.Answer.TheVariants.{Done, Refused}
 use Rattle.words.specs.declared.refusal.Refusal.{Refusal}
 use Rattle.fields.specs.Subframe2.{COUNTS_2}
 use Rattle.fields.specs.Pages.{PAGE_BITS}
@@ -26,7 +24,7 @@ use Rattle.frames.specs.Built.{built_right}
 use Rattle.sheets.specs.Text.{LINE_END, index_of}
 use Rattle.sheets.specs.List.{NUMBERS}
 use Rattle.sheets.specs.Trailer.{start_of}
-use Rattle.sheets.specs.Sheet.{sheet_is, sheet_read}
+use Rattle.sheets.specs.Sheet.{sheet_read}
 use Rattle.sheets.proofs.Reading.{read_exactly}
 use Rattle.sheets.specs.Laws.Text.{index_le}
 use Rattle.sheets.specs.Laws.Lengths.{range_good}
@@ -37,6 +35,8 @@ use Rattle.programs.specs.Laws.Symbols.{symbols_long, every_bit}
 use Rattle.programs.specs.Laws.Due.{done_all}
 use Rattle.programs.specs.Laws.Building.{first_time, read_answer}
 use Rattle.programs.proofs.Laws.Inputs.{done_right}
+use Rattle.std.specs.Prelude.{Err, Ok}
+use Rattle.sheets.specs.declared.sheet.Sheet.{Sheet}
 
 -- ---- answers
 
@@ -114,15 +114,11 @@ module _
 -- ---- the sheet behind the page line
 
 -- of a sheet that is read, the first number is at most 399, and there are 34
-pub read_first : (bytes : List ℕ) → (sheet_read bytes).answer ≡ Done
-    → (mag (get_or (sheet_read bytes).numbers 0 (pos 0)) ≤ LAST_TOI) × (length (sheet_read bytes).numbers ≡ NUMBERS)
-read_first bytes e =
-    let zs = (sheet_read bytes).numbers in
-    let n = (sheet_read bytes).before in
-    let is : sheet_read bytes ≡ sheet_is zs n =
-    ap (λ (a : Answer). record { answer = a; numbers = zs; before = n }) e in
-    let range = ((read_exactly bytes zs n).0 is).is_sheet.within_range in
-    (first_time zs range, (range_good zs range).0)
+pub read_first : (bytes : List ℕ) (sheet : Sheet) → sheet_read bytes ≡ Ok sheet
+    → (mag (get_or sheet.numbers 0 (pos 0)) ≤ LAST_TOI) × (length sheet.numbers ≡ NUMBERS)
+read_first bytes sheet e =
+    let range = ((read_exactly bytes sheet.numbers sheet.before).0 e).is_sheet.within_range in
+    (first_time sheet.numbers range, (range_good sheet.numbers range).0)
 
 module _ (page bytes f : List ℕ) (x : Answer) where
   abbrev BehindBuilt : List ℕ → Type 0
@@ -132,12 +128,12 @@ module _ (page bytes f : List ℕ) (x : Answer) where
   begins_later e g = rw (ne_eqb (start_of bytes) 0 e) (g, refl)
 
   module _ (begins : start_of bytes ≡ 0) where
-    pub sheet_refused : (r : Refusal) → (sheet_read bytes).answer ≡ Refused r → x ≡ Refused r → BehindBuilt f
-    sheet_refused r e g = rw (eq-eqb (start_of bytes) 0 begins, sym (read_answer bytes) ∙ e) (g, refl)
+    pub sheet_refused : (r : Refusal) → sheet_read bytes ≡ Err r → x ≡ Err r → BehindBuilt f
+    sheet_refused r e g = rw (eq-eqb (start_of bytes) 0 begins, sym (read_answer bytes) ∙ ap answer_of e) (g, refl)
 
-    pub sheet_built : (out : List ℕ) → (sheet_read bytes).answer ≡ Done
-        → Leaves (contents_answer (sheet_contents page bytes)) (frame_of (sheet_contents page bytes)) f x out → BehindBuilt out
-    sheet_built out e h = rw (eq-eqb (start_of bytes) 0 begins, sym (read_answer bytes) ∙ e) h
+    pub sheet_built : (out : List ℕ) (sheet : Sheet) → sheet_read bytes ≡ Ok sheet
+        → Leaves (contents_answer (carried_contents sheet.numbers page)) (frame_of (carried_contents sheet.numbers page)) f x out → BehindBuilt out
+    sheet_built out sheet e h = rw (eq-eqb (start_of bytes) 0 begins, sym (read_answer bytes) ∙ ap answer_of e, e) h
 
 -- ---- the input
 
@@ -150,7 +146,7 @@ module _ (input f : List ℕ) (x : Answer) where
   too_long h g = rw (lt-leb (length input) MOST_INPUT h) (g, refl)
 
   module _ (short : length input ≤ MOST_INPUT) where
-    pub page_refused : (r : Refusal) → page_line_answer input ≡ Refused r → x ≡ Refused r → InputBuilt f
+    pub page_refused : (r : Refusal) → page_line_answer input ≡ Err r → x ≡ Err r → InputBuilt f
     unfolding input_answer
     page_refused r e g = rw (le-leb (length input) MOST_INPUT short, e) (g, refl)
 

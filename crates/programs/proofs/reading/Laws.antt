@@ -5,21 +5,22 @@ use mathlib.Core.List.{List, [], ◌∷◌, ◌++◌}
 use Prim.Native.Nat.{ℕ, ◌-◌, ◌≤◌}
 use lib.ListN.{length, get_or}
 use borrow.Author.Tests.{eq-eqb}
-use Rattle.words.specs.Time.{time_read}
-use Rattle.words.specs.declared.refusal.Answer.{Answer}
-use Rattle.words.specs.declared.refusal.Answer.TheVariants.{Done, Refused}
+use Rattle.words.specs.Time.{time_read, corrected_read}
 use Rattle.words.specs.declared.refusal.Refusal.{Refusal}
 use Rattle.frames.specs.Frame.{GoodContents, FRAME, time_in}
-use Rattle.frames.specs.Read.{frame_answer, contents_in, frame_is, frame_by, frame_read}
+use Rattle.frames.specs.Read.{frame_answer, contents_in, frame_is, frame_read}
 use Rattle.frames.proofs.Reading.{read_exactly}
 use Rattle.frames.specs.declared.read.Frame.{Frame}
 use Rattle.sheets.specs.Text.{LINE_END}
 use Rattle.programs.specs.Symbols.{symbols_in, symbols_answer}
-use Rattle.programs.specs.Output.{refusal_text, text_by}
+use Rattle.programs.specs.Output.{refusal_text}
 use Rattle.programs.specs.Reading.{contents_text, frame_line, frame_line_answer, frame_text, frame_input_answer, printed_sheet}
 use Rattle.programs.proofs.building.Laws.{Leaves}
 use Rattle.programs.specs.Laws.Lines.{line_ends, line_before}
-use Rattle.programs.specs.Laws.Reading.{contents_read, answered_by}
+use Rattle.programs.specs.Laws.Reading.{contents_read, read_is}
+use Rattle.words.specs.Refusal.{Answer, Done, answer_of}
+use Rattle.std.specs.Prelude.{Ok, Err}
+use Rattle.words.specs.Laws.Turns.{given_answer}
 
 -- ---- the line of symbols
 
@@ -39,34 +40,25 @@ module _ (input frame : List ℕ) (x : Answer) where
 abbrev pub text_read : Frame → List ℕ
 text_read x = contents_text (contents_read x) x.corrected
 
-module _ (f : List ℕ) (x : Frame) (read : x ≡ frame_read f) where
-  answer_read : x.answer ≡ frame_answer f
-  answer_read = ap (λ (y : Frame). y.answer) read ∙ answered_by (frame_answer f) (contents_in f) (time_read (time_in f)).corrected
-
-  -- what is printed goes by it
-  pub text_by_lem : (a : Answer) → x.answer ≡ a → frame_text f ≡ text_by a (contents_text (contents_in f) (time_read (time_in f)).corrected)
+module _ (f : List ℕ) where
+  -- what is refused is printed as that refusal
+  pub text_refused : (r : Refusal) → frame_read f ≡ Err r → frame_text f ≡ refusal_text r.number r.place
   unfolding frame_text
-  text_by_lem a e =
-      ap (λ (b : Answer). text_by b (contents_text (contents_in f) (time_read (time_in f)).corrected)) (sym answer_read ∙ e)
+  text_refused r e = rw (sym (given_answer (frame_answer f) (frame_is (contents_in f) (corrected_read (time_read (time_in f))))) ∙ ap answer_of e) refl
 
-  module _ (done : x.answer ≡ Done) where
+  module _ (x : Frame) (read : frame_read f ≡ Ok x) where
     -- what is read is good, and at most nine symbols are corrected
     pub read_good : (x.corrected ≤ 9) × GoodContents (contents_read x)
-    read_good =
-        let is : x ≡ frame_is (contents_read x) x.corrected =
-        ap (λ (a : Answer). record { answer = a; toi = x.toi; corrected = x.corrected; counts = x.counts; page = x.page }) done in
-        let right = (read_exactly f (contents_read x) x.corrected).0 (sym read ∙ is) in
-        (right.1.time.near, right.0)
+    read_good = let right = (read_exactly f (contents_read x) x.corrected).0 read in (right.1.time.near, right.0)
 
     pub text_done : text_read x ≡ frame_text f
-    text_done =
-        ap text_read (read ∙ ap (λ (a : Answer). frame_by a (contents_in f) (time_read (time_in f)).corrected) (sym answer_read ∙ done))
-        ∙ sym (text_by_lem Done done)
+    unfolding frame_text
+    text_done = let is = read_is f (contents_read x) x.corrected read in sym (rw (is.0, is.1, is.2) refl)
 
 -- ---- the input
 
 module _ (input : List ℕ) where
-  pub print_refused : (r : Refusal) → frame_line_answer input ≡ Refused r → printed_sheet input ≡ refusal_text r.number r.place
+  pub print_refused : (r : Refusal) → frame_line_answer input ≡ Err r → printed_sheet input ≡ refusal_text r.number r.place
   unfolding printed_sheet frame_input_answer
   print_refused r e = rw e refl
 

@@ -4,11 +4,9 @@ use Rattle.std.specs.Prelude.{◌≡◌, refl, Bool, true, List, [], ◌∷◌, 
 use Rattle.std.proofs.Common.{sym, ap₂, ◌∙◌, subst, arith, le-leb}
 use Rattle.std.proofs.Math.Path.{ap}
 use Rattle.std.specs.Int.Signed.{mag}
-use Rattle.words.specs.Refusal.{TIME, done_if, in_turn}
+use Rattle.words.specs.Refusal.{TIME, done_if, in_turn, Answer, Done, answer_of}
 use Rattle.words.specs.Time.{LAST_TOI}
 use Rattle.words.specs.Laws.Turns.{both_done}
-use Rattle.words.specs.declared.refusal.Answer.{Answer}
-use Rattle.words.specs.declared.refusal.Answer.TheVariants.{Done, Refused}
 use Rattle.fields.specs.Table.{fields_in, no_field}
 use Rattle.fields.specs.Counts.{in_range, AllInRange}
 use Rattle.fields.specs.Laws.Counts.{range_head, range_most}
@@ -20,7 +18,7 @@ use Rattle.frames.specs.Build.{contents_answer}
 use Rattle.sheets.specs.List.{sheet_rows, sheet_fields}
 use Rattle.sheets.specs.Trailer.{has_trailer, start_of, lines_bytes}
 use Rattle.sheets.specs.Lines.{lines_in, numbers_in}
-use Rattle.sheets.specs.Sheet.{IsSheet, sheet_answer, sheet_is, sheet_by, sheet_read}
+use Rattle.sheets.specs.Sheet.{IsSheet, sheet_answer, sheet_is, sheet_by, sheet_read, sheet_numbers}
 use Rattle.sheets.specs.Contents.{numbers_of}
 use Rattle.sheets.specs.Due.{EndsWith}
 use Rattle.sheets.specs.Laws.Lengths.{toi_field, range_good}
@@ -28,6 +26,7 @@ use Rattle.sheets.specs.Laws.Trailer.{trailer_start}
 use Rattle.sheets.specs.Laws.Verdicts.{has_ends}
 use Rattle.sheets.proofs.Reading.{read_exactly}
 use Rattle.programs.specs.Building.{carried_contents}
+use Rattle.words.specs.Laws.Turns.{given_answer}
 
 -- ---- the numbers of a sheet as contents
 
@@ -56,13 +55,9 @@ pub starts_with : (bytes : List ℕ) → has_trailer bytes ≡ true → start_of
 starts_with bytes h e = subst (λ (m : ℕ). EndsWith bytes (take m bytes) (lines_bytes bytes)) e (has_ends bytes h)
 
 -- reading answers as judging does
-by_answer : (a : Answer) (zs : List ℤ) (n : ℕ) → (sheet_by a zs n).answer ≡ a
-by_answer Done zs n = refl
-by_answer (Refused r) zs n = refl
-
-pub read_answer : (s : List ℕ) → (sheet_read s).answer ≡ sheet_answer s
+pub read_answer : (s : List ℕ) → answer_of (sheet_read s) ≡ sheet_answer s
 unfolding sheet_read
-read_answer s = by_answer (sheet_answer s) (numbers_in (lines_in (lines_bytes s))) (start_of s)
+read_answer s = given_answer (sheet_answer s) _
 
 read_done : (s : List ℕ) → sheet_answer s ≡ Done → sheet_read s ≡ sheet_is (numbers_in (lines_in (lines_bytes s))) (start_of s)
 unfolding sheet_read
@@ -73,7 +68,7 @@ no_front : (front sheet : List ℕ) → length front ≡ 0 → front ++ sheet �
 no_front [] sheet e = refl
 no_front (b ∷ front) sheet e = absurd (omega arith)
 
-pub done_sheet : (bytes body : List ℕ) → EndsWith bytes [] body → sheet_answer bytes ≡ Done → IsSheet (sheet_read bytes).numbers bytes
+pub done_sheet : (bytes body : List ℕ) → EndsWith bytes [] body → sheet_answer bytes ≡ Done → IsSheet (sheet_numbers (sheet_read bytes)) bytes
 done_sheet bytes body ends e =
     let zs = numbers_in (lines_in (lines_bytes bytes)) in
     let read : sheet_read bytes ≡ sheet_is zs 0 = read_done bytes e ∙ ap (sheet_is zs) (starts bytes body ends) in

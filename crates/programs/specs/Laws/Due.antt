@@ -1,11 +1,9 @@
 -- Refusals; and of characters that must be symbols, what is refused is what is due.
 -- Assumes nothing.
-use Rattle.std.specs.Prelude.{◌≡◌, refl, Bool, true, false, cond, List, [], ◌∷◌, ◌⊎◌, ◌≢◌, ℕ, zero, suc, ◌<◌, eqb, length, get_or}
+use Rattle.std.specs.Prelude.{◌≡◌, refl, Bool, true, false, cond, List, [], ◌∷◌, ◌⊎◌, ◌≢◌, ℕ, zero, suc, ◌<◌, eqb, length, get_or, Err, Ok}
 use Rattle.std.proofs.Common.{sym, ap, ap₂, ◌∙◌, inl, inr, arith, eq-eqb, ne_eqb, eqb-true}
-use Rattle.words.specs.Refusal.{LENGTH, NOT_A_BIT, refused_at, done_if, in_turn}
+use Rattle.words.specs.Refusal.{LENGTH, NOT_A_BIT, refused_at, done_if, in_turn, Answer, Done}
 use Rattle.words.specs.Laws.Turns.{both_done, test_done}
-use Rattle.words.specs.declared.refusal.Answer.{Answer}
-use Rattle.words.specs.declared.refusal.Answer.TheVariants.{Done, Refused}
 use Rattle.tables.specs.Laws.Cases.{same_or_not}
 use Rattle.frames.specs.Due.{RefusesWith}
 use Rattle.frames.specs.Laws.Due.{Verdict, fine, due}
@@ -16,8 +14,8 @@ use Rattle.programs.specs.Laws.Symbols.{other_le, all_at}
 -- ---- any answer
 
 pub refuses_is : (a : Answer) (n p : ℕ) → RefusesWith a n p → a ≡ refused_at n p
-refuses_is Done n p h = absurd (h.some (sym h.number_is))
-refuses_is (Refused r) n p h = ap₂ refused_at h.number_is h.place_is
+refuses_is (Ok _) n p h = absurd (h.some (sym h.number_is))
+refuses_is (Err r) n p h = ap₂ refused_at h.number_is h.place_is
 
 -- ---- the first other character
 

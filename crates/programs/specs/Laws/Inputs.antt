@@ -2,9 +2,10 @@
 -- Assumes nothing.
 use Rattle.std.specs.Prelude.{◌≡◌, ℕ, length}
 use Rattle.std.proofs.Math.Path.{ap, ap₂}
-use Rattle.std.proofs.Common.{◌∙◌, arith, length-append}
+use Rattle.std.proofs.Common.{◌∙◌, arith, length-append, Result}
 use mathlib.Core.List.{List, [], ◌∷◌, ◌++◌}
 use Rattle.frames.specs.Frame.{Contents}
+use Rattle.sheets.specs.Sheet.{sheet_numbers}
 use Rattle.sheets.specs.Text.{LINE_END, ended_by}
 use Rattle.sheets.specs.Trailer.{trailer_text}
 use Rattle.sheets.specs.Contents.{numbers_of}
@@ -18,6 +19,7 @@ use Rattle.programs.specs.Due.{RightPageLine}
 use Rattle.programs.specs.Laws.Symbols.{characters_long, all_at, characters_all, symbols_again}
 use Rattle.programs.specs.Laws.Building.{carried_is}
 use Rattle.programs.specs.Laws.Lines.{first_is, after_is, has_newline, no_newline_in, symbol_line_on, symbol_line_long}
+use Rattle.words.specs.declared.refusal.Refusal.{Refusal}
 
 -- ---- right input is done
 
@@ -59,5 +61,5 @@ module _ (c : Contents) (input : List ℕ) (is : IsInput c input) where
   unfolding input_contents
   right_contents =
       ap₂ (λ (page bytes : List ℕ). sheet_contents page bytes) page_agrees after
-      ∙ ap (λ (x : Sheet). carried_contents x.numbers c.page) (is_read (numbers_of c) is.sheet is.is_sheet [])
+      ∙ ap (λ (x : Result Sheet Refusal). carried_contents (sheet_numbers x) c.page) (is_read (numbers_of c) is.sheet is.is_sheet [])
       ∙ carried_is c

@@ -1,19 +1,19 @@
 -- Texts written one after another, and what is printed of them.
 -- Assumes nothing.
-use Rattle.std.specs.Prelude.{◌≡◌, Bool, List, ◌++◌, ℕ, ◌+◌, ◌-◌, ◌≤◌, ℤ, length, take, drop, replicate}
-use Rattle.std.proofs.Common.{sym, ap₂, ◌∙◌, append-nil, append_assoc, arith, length-append, length-drop, drop_of_length-le, drop-drop}
+use Rattle.std.specs.Prelude.{◌≡◌, Bool, List, ◌++◌, ℕ, ◌+◌, ◌-◌, ◌≤◌, ℤ, length, take, drop, replicate, Ok}
+use Rattle.std.proofs.Common.{sym, ap₂, ◌∙◌, append-nil, append_assoc, arith, length-append, length-drop, drop_of_length-le, drop-drop, Result}
 use Rattle.std.proofs.Math.Path.{ap}
 use Rattle.std.proofs.lemmas.List.{length-replicate}
 use Rattle.std.proofs.Math.Seq.{take_all}
 use Rattle.std.proofs.lemmas.List.Edits.{sets, sets-eq}
 use borrow.Author.Tests.{le-leb}
-use Rattle.words.specs.Refusal.{ROOM, done_if, left_by}
+use Rattle.words.specs.Refusal.{ROOM, done_if, left_by, given_by}
 use Rattle.fields.specs.Counts.{AllInRange}
 use Rattle.sheets.specs.List.{sheet_fields}
-use Rattle.sheets.specs.Write.{sheet_text, put_first, written_by, sheet_written, written_bytes, text_written, text_bytes}
+use Rattle.sheets.specs.Write.{sheet_text, put_first, sheet_written, written_bytes, text_written, text_bytes, size_written}
 use Rattle.sheets.specs.Writing.{write_exactly, write_bytes}
 use Rattle.sheets.specs.Laws.Sets.{sets_append, sets_front}
-use Rattle.sheets.specs.declared.write.Written.{Written}
+use Rattle.words.specs.declared.refusal.Refusal.{Refusal}
 use Rattle.programs.specs.Output.{OUTPUT_BYTES, symbol_line, output_of}
 use Rattle.programs.specs.Laws.Lines.{symbol_line_long}
 use Rattle.programs.specs.declared.output.Output.{Output}
@@ -77,23 +77,34 @@ module _ (text out : List ℕ) (n at : ℕ) (long : length out ≡ n) (room : at
             ∙ text_set,
       )
 
-  pub text_put : (written : Written) (part : List ℕ) → written ≡ text_written text (part_from n at out)
-      → part ≡ text_bytes text (part_from n at out) → Puts out at text (at + written.size) (with_part n at out part)
+  -- so the text is written
+  pub text_fits : text_written text (part_from n at out) ≡ Ok (length text)
+  unfolding text_written
+  text_fits = ap (λ (t : Bool). given_by (done_if t ROOM 0) (length text)) (le-leb (length text) (length (part_from n at out)) room_in_part)
+
+  pub text_put : (written : Result ℕ Refusal) (part : List ℕ) → written ≡ text_written text (part_from n at out)
+      → part ≡ text_bytes text (part_from n at out) → Puts out at text (at + size_written written) (with_part n at out part)
   unfolding text_written text_bytes
   text_put written part w e =
       let fits = le-leb (length text) (length (part_from n at out)) room_in_part in
-      part_put written.size part (ap (λ (r : Written). r.size) w ∙ ap (λ (t : Bool). (written_by (done_if t ROOM 0) (length text)).size) fits)
+      part_put (size_written written) part (ap size_written w ∙ ap (λ (t : Bool). size_written (given_by (done_if t ROOM 0) (length text))) fits)
       (e ∙ ap (λ (t : Bool). left_by (done_if t ROOM 0) (put_first text (part_from n at out)) (part_from n at out)) fits)
 
 -- a sheet of good numbers in the same way
 module _ (zs : List ℤ) (out : List ℕ) (n at : ℕ) (range : AllInRange sheet_fields zs) (long : length out ≡ n)
     (room : at + length (sheet_text zs) ≤ n) where
-  pub sheet_put : (written : Written) (part : List ℕ) → written ≡ sheet_written zs (part_from n at out)
-      → part ≡ written_bytes zs (part_from n at out) → Puts out at (sheet_text zs) (at + written.size) (with_part n at out part)
+  -- it is written
+  pub sheet_fits : sheet_written zs (part_from n at out) ≡ Ok (length (sheet_text zs))
+  sheet_fits =
+      let answer = (write_exactly zs (part_from n at out)).1 (range, room_in_part (sheet_text zs) out n at long room) in
+      (write_bytes zs (part_from n at out) answer).1
+
+  pub sheet_put : (written : Result ℕ Refusal) (part : List ℕ) → written ≡ sheet_written zs (part_from n at out)
+      → part ≡ written_bytes zs (part_from n at out) → Puts out at (sheet_text zs) (at + size_written written) (with_part n at out part)
   sheet_put written part w e =
       let answer = (write_exactly zs (part_from n at out)).1 (range, room_in_part (sheet_text zs) out n at long room) in
       let is = write_bytes zs (part_from n at out) answer in
-      part_put (sheet_text zs) out n at long room written.size part (ap (λ (r : Written). r.size) (w ∙ is.1)) (e ∙ is.0)
+      part_put (sheet_text zs) out n at long room (size_written written) part (ap size_written (w ∙ is.1)) (e ∙ is.0)
 
 -- ---- what is printed
 

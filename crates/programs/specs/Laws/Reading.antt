@@ -1,16 +1,14 @@
 -- The input of the way back: what is refused is what is due, and what is not refused is a frame.
 -- Assumes nothing.
-use Rattle.std.specs.Prelude.{◌≡◌, refl, Bool, List, [], ◌∷◌, ◌++◌, ◌⊎◌, ◌≢◌, ℕ, suc, ◌-◌, eqb, length, get_or, take}
+use Rattle.std.specs.Prelude.{◌≡◌, Bool, List, [], ◌∷◌, ◌++◌, ◌⊎◌, ◌≢◌, ℕ, suc, ◌-◌, eqb, length, get_or, take, Ok}
 use Rattle.std.proofs.Common.{sym, ap₂, ◌∙◌, inl, inr, arith, take-append-drop, drop_of_length-le, drop-cons, eq-eqb, ne_eqb, eqb-true}
 use Rattle.std.proofs.Math.Path.{ap}
-use Rattle.words.specs.Refusal.{LENGTH, refused_at, done_if, in_turn}
-use Rattle.words.specs.Time.{time_read}
+use Rattle.words.specs.Refusal.{LENGTH, refused_at, done_if, in_turn, Answer, Done}
+use Rattle.words.specs.Time.{time_read, corrected_read}
 use Rattle.words.specs.Laws.Turns.{both_done, test_done}
-use Rattle.words.specs.declared.refusal.Answer.{Answer}
-use Rattle.words.specs.declared.refusal.Answer.TheVariants.{Done, Refused}
 use Rattle.tables.specs.Laws.Cases.{same_or_not}
 use Rattle.frames.specs.Frame.{Contents, FRAME, time_in}
-use Rattle.frames.specs.Read.{frame_answer, frame_is, frame_by, frame_read, contents_in}
+use Rattle.frames.specs.Read.{frame_answer, frame_is, frame_read, contents_in}
 use Rattle.frames.specs.Build.{contents_of}
 use Rattle.frames.proofs.Reading.{read_exactly}
 use Rattle.frames.specs.Due.{FrameDue}
@@ -26,6 +24,7 @@ use Rattle.programs.specs.Due.{SymbolsDue, AreCharacters, EndsLine, FrameInputDu
 use Rattle.programs.specs.Laws.Symbols.{characters_long, characters_all, characters_again, symbols_again, all_at}
 use Rattle.programs.specs.Laws.Due.{symbols_due_refused, symbols_verdict, characters_done, done_characters, done_all}
 use Rattle.programs.specs.Laws.Lines.{frame_line_is, symbol_line_ends}
+use Rattle.words.specs.Laws.Turns.{given_ok}
 
 module _ (input : List ℕ) where
   abbrev symbols : List ℕ
@@ -76,26 +75,18 @@ module _ (input : List ℕ) where
 
 -- ---- what is read
 
--- what is read of a frame has its answer
-pub answered_by : (a : Answer) (c : Contents) (places : ℕ) → (frame_by a c places).answer ≡ a
-answered_by Done c places = refl
-answered_by (Refused r) c places = refl
-
 -- the contents of what is read
 abbrev pub contents_read : Frame → Contents
 contents_read x = contents_of x.toi x.counts x.page
 
 -- symbols that are read as contents are done, and stand for these
-pub read_is : (f : List ℕ) (c : Contents) (places : ℕ) → frame_read f ≡ frame_is c places
-    → (frame_answer f ≡ Done) × (contents_in f ≡ c) × ((time_read (time_in f)).corrected ≡ places)
+pub read_is : (f : List ℕ) (c : Contents) (places : ℕ) → frame_read f ≡ Ok (frame_is c places)
+    → (frame_answer f ≡ Done) × (contents_in f ≡ c) × (corrected_read (time_read (time_in f)) ≡ places)
 read_is f c places e =
-    let done : frame_answer f ≡ Done =
-    sym (answered_by (frame_answer f) (contents_in f) (time_read (time_in f)).corrected) ∙ ap (λ (x : Frame). x.answer) e
-    in
-    let same : frame_is (contents_in f) (time_read (time_in f)).corrected ≡ frame_is c places =
-    ap (λ (a : Answer). frame_by a (contents_in f) (time_read (time_in f)).corrected) (sym done) ∙ e
-    in
-    (done, ap contents_read same, ap (λ (x : Frame). x.corrected) same)
+    let found = frame_is (contents_in f) (corrected_read (time_read (time_in f))) in
+    let given = given_ok (frame_answer f) found (frame_is c places) e in
+    let same : found ≡ frame_is c places = sym given.1 in
+    (given.0, ap contents_read same, ap (λ (x : Frame). x.corrected) same)
 
 -- ---- a frame in the input
 
@@ -106,7 +97,7 @@ module _ (c : Contents) (places : ℕ) (input : List ℕ) (is : IsFrameLine c pl
   pub symbols_are : symbols_in (frame_line input) ≡ is.symbols
   symbols_are = ap symbols_in line ∙ symbols_again is.symbols
 
-  pub reads : frame_read is.symbols ≡ frame_is c places
+  pub reads : frame_read is.symbols ≡ Ok (frame_is c places)
   reads = (read_exactly is.symbols c places).1 (is.good, is.readable)
 
   pub reads_done : frame_input_answer input ≡ Done
@@ -131,7 +122,7 @@ last_cut (b ∷ l) ends =
 
 -- what is done is a frame
 pub done_reads_as : (input : List ℕ) → frame_input_answer input ≡ Done
-    → IsFrameLine (contents_in (symbols_in (frame_line input))) (time_read (time_in (symbols_in (frame_line input)))).corrected input
+    → IsFrameLine (contents_in (symbols_in (frame_line input))) (corrected_read (time_read (time_in (symbols_in (frame_line input))))) input
 unfolding frame_input_answer symbol_line
 done_reads_as input e =
     let f = symbols_in (frame_line input) in

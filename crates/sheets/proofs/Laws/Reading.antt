@@ -27,7 +27,7 @@ use Rattle.sheets.specs.Laws.Arranged.{arranged_without, arranged_fine, arranged
 -- ---- what is read
 
 by_done : (a : Answer) (ys : List ℤ) (b : ℕ) (zs : List ℤ) (n : ℕ) → sheet_by a ys b ≡ sheet_is zs n → (a ≡ Done) × (ys ≡ zs) × (b ≡ n)
-by_done (Ok tt) ys b zs n e = (refl, ap sheet_numbers e, ap sheet_before e)
+by_done (Ok _) ys b zs n e = (refl, ap sheet_numbers e, ap sheet_before e)
 by_done (Err r) ys b zs n e = absurd (not_done r.number r.place (ap answer_of e))
 
 -- lines that are not refused are fine

@@ -12,7 +12,7 @@ use Rattle.sheets.specs.Sheet.{sheet_answer, sheet_by, sheet_read, sheet_before}
 use Rattle.sheets.specs.Laws.Trailer.{start_before}
 
 by_within : (a : Answer) (zs : List ℤ) (before n : ℕ) → before ≤ n → sheet_before (sheet_by a zs before) ≤ n
-by_within (Ok tt) zs before n h = h
+by_within (Ok _) zs before n h = h
 by_within (Err r) zs before n h = omega arith
 
 module _ (s : List ℕ) where

@@ -12,7 +12,7 @@ pub data Answered (a : Answer) : Type 0 where
   refused : (n p : ℕ) → a ≡ refused_at n p → Answered a
 
 pub answered : (a : Answer) → Answered a
-answered (Ok tt) = done refl
+answered (Ok _) = done refl
 answered (Err r) = refused r.number r.place refl
 
 -- a refusal is its number and place
@@ -24,11 +24,11 @@ pub not_done : (n p : ℕ) → refused_at n p ≡ Done → ⊥
 not_done n p e = let z : ◌≡◌ {A = ℕ} 0 1 = ap refused_or_not (sym e) in omega arith
   where
     refused_or_not : Answer → ℕ
-    refused_or_not (Ok tt) = 0
+    refused_or_not (Ok _) = 0
     refused_or_not (Err r) = 1
 
 pub both_done : (a b : Answer) → in_turn a b ≡ Done → (a ≡ Done) × (b ≡ Done)
-both_done (Ok tt) b e = (refl, e)
+both_done (Ok _) b e = (refl, e)
 both_done (Err r) b e = absurd (not_done r.number r.place e)
 
 pub test_done : (t : Bool) (n p : ℕ) → done_if t n p ≡ Done → t ≡ true
@@ -37,7 +37,7 @@ test_done false n p e = absurd (not_done n p e)
 
 -- what is given by an answer has that answer
 pub given_answer : {A : Type 0} (a : Answer) (x : A) → answer_of (given_by a x) ≡ a
-given_answer (Ok tt) x = refl
+given_answer (Ok _) x = refl
 given_answer (Err r) x = refl
 
 -- what is given is one thing
@@ -46,7 +46,7 @@ ok_same x y e = ap (λ (r : Result _ Refusal). result_unwrap_or r x) e
 
 -- and where something is given, the answer is done, and that is it
 pub given_ok : {A : Type 0} (a : Answer) (x y : A) → given_by a x ≡ Ok y → (a ≡ Done) × (y ≡ x)
-given_ok (Ok tt) x y e = (refl, sym (ok_same x y e))
+given_ok (Ok _) x y e = (refl, sym (ok_same x y e))
 given_ok (Err r) x y e = absurd (not_done r.number r.place (ap answer_of e))
 
 -- lent bytes of the right length that are bits are judged by what else is answered
@@ -70,5 +70,5 @@ test_numbered true n p h e = refl
 test_numbered false n p h e = absurd (h e)
 
 pub turn_numbered : (a b : Answer) → Numbered a → Numbered b → Numbered (in_turn a b)
-turn_numbered (Ok tt) b ha hb e = hb e
+turn_numbered (Ok _) b ha hb e = hb e
 turn_numbered (Err r) b ha hb e = ha e

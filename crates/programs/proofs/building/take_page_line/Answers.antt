@@ -1,8 +1,9 @@
 -- `programs::building::take_page_line` meets its contract: the line ends at the first newline, and its characters are taken as symbols.
 -- Assumes nothing.
-use mathlib.Core.Path.{sym}
+use mathlib.Core.Path.{sym, ap}
 use native.Mathlib.Omega.{arith}
 use lib.Seq.{length-take-le}
+use Rattle.std.specs.Prelude.{Err}
 use Rattle.sheets.specs.Text.{LINE_END}
 use Rattle.sheets.specs.Laws.Text.{index_le}
 use Rattle.programs.proofs.building.Laws.{no_newline, line_taken}
@@ -11,8 +12,8 @@ use Rattle.programs.proofs.building.take_page_line.Goals as goal
 pub returns-then-end-input : goal.returns-then-end-input
 returns-then-end-input c =
     let a = c.args in
-    no_newline a.input.now a.page.now c.find-end.result c.find-end.ensures c.refuse.result c.if-end-input.true
-    c.refuse.ensures
+    no_newline a.input.now a.page.now c.find-end.result c.find-end.ensures _ c.if-end-input.true
+    (ap Err c.at.ensures)
 
 pub slice_bounds-take_symbols-end : goal.slice_bounds-take_symbols-end
 slice_bounds-take_symbols-end c =

@@ -7,8 +7,8 @@ use Rattle.programs.proofs.output.refusal_output.Goals as goal
 
 pub returns : goal.returns
 returns c =
-    let number = c.args.number in
-    let place = c.args.place in
+    let number = c.args.refusal.number in
+    let place = c.args.refusal.place in
     let fresh = c.new-output in
     let added = refusal_added number place fresh.result c.put.new.self c.put_number.new.self c.put-2.new.self c.put_number-2.new.self
     c.put-3.new.self (c.put.ensures.size, c.put.ensures.bytes) (c.put_number.ensures.size, c.put_number.ensures.bytes)
