@@ -25,17 +25,21 @@ returns-then-toi-gt-LAST_TOI c =
     wrong_time a.toi a.counts.now a.page.now a.frame.now _ (sym c.has_sizes.ensures ∙ c.if-not-has_sizes.false)
     (bits_done a.page.now (sym c.judge_bits.ensures ∙ c.in_ok-judge_bits.was)) c.if-toi-gt-LAST_TOI.true (ap Err c.at-then-toi-gt-LAST_TOI.ensures)
 
+pub invariant_of-contents : goal.invariant_of-contents
+invariant_of-contents c =
+    let a = c.args in
+    let right = right_sizes a.toi a.counts.now a.page.now a.frame.now (sym c.has_sizes.ensures ∙ c.if-not-has_sizes.false) in
+    record {
+      time = c.if-toi-gt-LAST_TOI.false;
+      count = right.0;
+      whole = right.1;
+      bits = none_not_bit a.page.now (bits_done a.page.now (sym c.judge_bits.ensures ∙ c.in_ok-judge_bits.was));
+    }
+
 pub build_in-requires : goal.build_in-requires
 build_in-requires c =
     let a = c.args in
-    let right = right_sizes a.toi a.counts.now a.page.now a.frame.now (sym c.has_sizes.ensures ∙ c.if-not-has_sizes.false) in (
-      c.if-toi-gt-LAST_TOI.false,
-      right.0,
-      right.1,
-      none_not_bit a.page.now (bits_done a.page.now (sym c.judge_bits.ensures ∙ c.in_ok-judge_bits.was)),
-      refl,
-      right.2,
-    )
+    (refl, (right_sizes a.toi a.counts.now a.page.now a.frame.now (sym c.has_sizes.ensures ∙ c.if-not-has_sizes.false)).2)
 
 pub returns : goal.returns
 returns c =
