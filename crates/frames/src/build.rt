@@ -4,7 +4,7 @@ ghost use Rattle.words.specs.Bits.{IsBits};
 ghost use Rattle.words.specs.Refusal.{in_turn, left_by};
 ghost use Rattle.words.specs.Time.{LAST_TOI, time_word};
 ghost use Rattle.tables.specs.declared.matrix.Subframe.TheVariants.{Three};
-ghost use Rattle.parity.specs.Order.{SYMBOLS_2, SYMBOLS_3, interleaved};
+ghost use Rattle.parity.specs.Order.{interleaved};
 ghost use Rattle.fields.specs.Subframe2.{COUNTS_2, BITS_2, counts_answer, bits2};
 ghost use Rattle.fields.specs.Pages.{PAGE_BITS, range_answer};
 ghost use Rattle.frames.specs.Frame.{FRAME, subframe_of};
@@ -41,8 +41,7 @@ struct Contents<'a> {
 
 impl<'a> Contents<'a> {
     // The block of subframe 3 with the page, its check bits and its parity.
-    fn write_page_block(self, three: &mut [u8])
-        requires { length three.old ≡ SYMBOLS_3 }
+    fn write_page_block(self, three: &mut [u8; 548])
         ensures { three.new ≡ subframe_of Three self.entry.page.now }
     {
         three[..250].copy_from_slice(self.page);
@@ -50,9 +49,8 @@ impl<'a> Contents<'a> {
     }
 
     // The symbols of the time and of both blocks, in order.
-    fn write_symbols(self, two: &[u8], three: &[u8], frame: &mut [u8])
-        requires { (length two.now ≡ SYMBOLS_2) × IsBits two.now
-            × (length three.now ≡ SYMBOLS_3) × IsBits three.now × (length frame.old ≡ FRAME) }
+    fn write_symbols(self, two: &[u8; 1200], three: &[u8; 548], frame: &mut [u8])
+        requires { IsBits two.now × IsBits three.now × (length frame.old ≡ FRAME) }
         ensures { frame.new ≡ time_word self.entry.toi ++ interleaved (two.now ++ three.now) }
     {
         write_time(&mut frame[..52], self.toi).unwrap();
@@ -60,8 +58,8 @@ impl<'a> Contents<'a> {
     }
 
     // The frame of the time, of the bits of subframe 2, which stand in front of its block, and of the page.
-    fn write_frame(self, two: &mut [u8], frame: &mut [u8])
-        requires { (length two.old ≡ SYMBOLS_2) × IsBits (take BITS_2 two.old) × (length frame.old ≡ FRAME) }
+    fn write_frame(self, two: &mut [u8; 1200], frame: &mut [u8])
+        requires { IsBits (take BITS_2 two.old) × (length frame.old ≡ FRAME) }
         ensures { frame.new ≡ symbols_from self.entry.toi (take BITS_2 two.old) self.entry.page.now }
     {
         let mut three = [0u8; 548];
@@ -71,8 +69,8 @@ impl<'a> Contents<'a> {
     }
 
     // Judges the counts and the page, and where nothing is refused writes the frame; `two` is room for the block of subframe 2.
-    fn build_in(self, two: &mut [u8], frame: &mut [u8]) -> Result<(), Refusal>
-        requires { (length two.old ≡ SYMBOLS_2) × (length frame.old ≡ FRAME) }
+    fn build_in(self, two: &mut [u8; 1200], frame: &mut [u8]) -> Result<(), Refusal>
+        requires { length frame.old ≡ FRAME }
         ensures { (result ≡ in_turn (counts_answer self.entry.counts.now) (range_answer self.entry.page.now))
             × (frame.new ≡ left_by (in_turn (counts_answer self.entry.counts.now) (range_answer self.entry.page.now))
             (symbols_from self.entry.toi (bits2 self.entry.counts.now) self.entry.page.now) frame.old) }

@@ -1,5 +1,5 @@
 -- `frames::build::build` meets its contract. Assumes nothing.
-use mathlib.Core.Path.{◌≡◌, refl, sym, ap, ◌∙◌}
+use mathlib.Core.Path.{◌≡◌, sym, ap, ◌∙◌}
 use Rattle.std.specs.Prelude.{Err}
 use Rattle.std.proofs.Common.{rules}
 use Rattle.words.specs.Laws.Digits.{none_not_bit}
@@ -39,7 +39,7 @@ invariant_of-contents c =
 pub build_in-requires : goal.build_in-requires
 build_in-requires c =
     let a = c.args in
-    (refl, (right_sizes a.toi a.counts.now a.page.now a.frame.now (sym c.has_sizes.ensures ∙ c.if-not-has_sizes.false)).2)
+    (right_sizes a.toi a.counts.now a.page.now a.frame.now (sym c.has_sizes.ensures ∙ c.if-not-has_sizes.false)).2
 
 pub returns : goal.returns
 returns c =

@@ -15,12 +15,10 @@ use Rattle.frames.proofs.build.Contents.write_frame.Goals as goal
 pub write_symbols-requires : goal.write_symbols-requires
 write_symbols-requires c =
     let two = c.args.two.now in (
-      c.complete.auto.block ∙ c.requires.0,
       subst IsBits (sym c.complete.ensures)
-          (made_block Two (take 576 two) (length-take-le 576 two (omega (arith, c.requires.0))) c.requires.1).bits,
-      c.write_page_block.auto.three,
+          (made_block Two (take 576 two) (length-take-le 576 two (omega (arith, c.told-two))) c.requires.0).bits,
       subst IsBits (sym c.write_page_block.ensures) (made_block Three c.args.self.page.now c.args.self.whole c.args.self.bits).bits,
-      c.requires.2,
+      c.requires.1,
     )
 
 pub returns : goal.returns
