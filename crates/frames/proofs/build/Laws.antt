@@ -22,8 +22,7 @@ use Rattle.fields.specs.Table.{fields_in}
 use Rattle.fields.specs.Counts.{first_out}
 use Rattle.fields.specs.FieldsBack.{length_bits2}
 use Rattle.fields.specs.Subframe2.{bits2, counts_answer, fields_written, fields_bytes}
-use Rattle.fields.specs.Pages.{range_answer, page_answer}
-use Rattle.fields.specs.Laws.Answers.{judged_right}
+use Rattle.fields.specs.Pages.{range_answer}
 use Rattle.fields.specs.Laws.Table.{count_subframe2}
 use Rattle.fields.specs.declared.table.Table.TheVariants.{Subframe2}
 use Rattle.frames.specs.Build.{contents_of, contents_answer, build_lengths, build_answer, build_bytes}
@@ -103,10 +102,6 @@ module _ (zs : List ℤ) (two : List ℕ) (many : length zs ≡ 33) (wide : leng
       let put : d ≡ bits2 zs =
       e ∙ rw (eq-eqb (length zs) 33 many, eq-eqb (length (take 576 two)) 576 part_576, test_done (eqb out 0) FIELD_2 out done) refl in
       take_at d (drop 576 two) 576 (ap length put ∙ length_bits2 zs (many ∙ sym count_subframe2)) ∙ put
-
--- 250 page bits are judged by their fields alone
-pub page_judged : (l : List ℕ) → length l ≡ 250 → IsBits l → page_answer l ≡ range_answer l
-page_judged l long bits = judged_right 250 (length l) l (range_answer l) long bits
 
 -- ---- two judgements in turn: what is answered, and what is left in the frame
 

@@ -22,11 +22,11 @@ use Rattle.parity.specs.Judged.{done_met}
 use Rattle.fields.specs.Table.{fields_in}
 use Rattle.fields.specs.Counts.{counts_in}
 use Rattle.fields.specs.Subframe2.{BITS_2, fields_answer, fields_read}
-use Rattle.fields.specs.Pages.{PAGE_BITS, range_answer, page_answer}
+use Rattle.fields.specs.Pages.{PAGE_BITS, range_answer}
 use Rattle.fields.specs.Laws.Answers.{judged_right}
 use Rattle.fields.specs.declared.table.Table.TheVariants.{Subframe2}
 use Rattle.frames.specs.Frame.{FRAME, time_in, subframe_in, bits_before, bits_in}
-use Rattle.frames.specs.Read.{check_bits_answer, ranges_answer, subframe_answer, frame_judged, contents_in, frame_is, frame_read, time_alone, subframe2_alone, subframe3_alone}
+use Rattle.frames.specs.Read.{check_bits_answer, ranges_answer, subframe_answer, frame_judged, contents_in, frame_is, frame_read, time_alone}
 use Rattle.frames.specs.Laws.Blocks.{check_fits}
 use Rattle.frames.specs.Laws.Reading.{lent_on, lent_done}
 use Rattle.frames.specs.Laws.Steps.{block_answer, counts_from, page_from, frame_from, turns}
@@ -67,10 +67,6 @@ counts_done y e =
 pub page_done : (y : List ℕ) → block_answer Three y ≡ Done → given_by (range_answer (take PAGE_BITS y)) (take PAGE_BITS y) ≡ page_from y
 page_done y e = sym (ap (λ (a : Answer). given_by a (take PAGE_BITS y)) (block_then Three y Done e))
 
--- 250 page bits are judged by their fields alone
-pub page_judged : (l : List ℕ) → length l ≡ PAGE_BITS → IsBits l → page_answer l ≡ range_answer l
-page_judged l long bits = judged_right PAGE_BITS (length l) l (range_answer l) long bits
-
 -- the frame of a time and of blocks whose counts and page bits are read
 pub frame_made : (time : Time) (two three : List ℕ) (counts : List ℤ) (page : List ℕ) → counts_from two ≡ Ok counts → page_from three ≡ Ok page
     → frame_from time two three ≡ Ok (record { toi = time.toi; corrected = time.corrected; counts = counts; page = page })
@@ -80,17 +76,6 @@ frame_made time two three counts page e f =
     rw (second.0, third.0, second.1, third.1) refl
 
 -- ---- a frame
-
-pub two_done : (f : List ℕ) → frame_judged f Done ≡ Done → counts_from (subframe_in Two f) ≡ subframe2_alone f
-two_done f e =
-    let lent = lent_done f Done e in
-    sym (ap (λ (a : Answer). given_by a (counts_in (fields_in Subframe2) (bits_in Two f)))
-    (lent_on f lent.0 lent.1 (subframe_answer Two (subframe_in Two f))))
-
-pub three_done : (f : List ℕ) → frame_judged f Done ≡ Done → page_from (subframe_in Three f) ≡ subframe3_alone f
-three_done f e =
-    let lent = lent_done f Done e in
-    sym (ap (λ (a : Answer). given_by a (bits_in Three f)) (lent_on f lent.0 lent.1 (subframe_answer Three (subframe_in Three f))))
 
 module _ (f : List ℕ) (t : Time) (found : time_alone f ≡ Ok t) where
   -- where the time alone is read, 1800 symbols are lent, and it is their time

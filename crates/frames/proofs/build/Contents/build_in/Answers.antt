@@ -12,7 +12,8 @@ use Rattle.fields.specs.FieldsBack.{bits2_are}
 use Rattle.fields.specs.Pages.{range_answer}
 use Rattle.fields.specs.Subframe2.{bits2, counts_answer}
 use Rattle.frames.specs.Laws.Steps.{symbols_from}
-use Rattle.frames.proofs.build.Laws.{written_answer, fields_in_front, page_judged, first_refused, second_refused, none_refused}
+use Rattle.frames.specs.Laws.Good.{page_judged}
+use Rattle.frames.proofs.build.Laws.{written_answer, fields_in_front, first_refused, second_refused, none_refused}
 use Rattle.frames.proofs.build.Contents.build_in.Goals as goal
 
 pub slice_bounds-write_fields-end-2 : goal.slice_bounds-write_fields-end-2
