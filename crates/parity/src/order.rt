@@ -1,8 +1,8 @@
 // The order of symbols: those of subframe 2, then those of subframe 3, fill rows and leave by columns.
-ghost use Rattle.std.specs.Prelude.{◌≡◌, ◌++◌, ◌+◌, ◌<◌, ◌≤◌, ltb, length, get_or};
+ghost use Rattle.std.specs.Prelude.{◌≡◌, ◌++◌, ◌+◌, ◌<◌, ◌≤◌, eqb, ltb, length, get_or};
 ghost use Rattle.words.specs.Bits.{first_not_bit};
-ghost use Rattle.words.specs.Refusal.{LENGTH, done_if};
-ghost use Rattle.parity.specs.Order.{SYMBOLS_2, SYMBOLS_3, SYMBOLS, leaves_at, stood_at, symbols_at, interleaved, place_in_order, place_before, right_lengths, bits_answer, interleave_answer, interleave_bytes, deinterleave_answer, deinterleave_block2, deinterleave_block3};
+ghost use Rattle.words.specs.Refusal.{LENGTH, NOT_A_BIT, done_if};
+ghost use Rattle.parity.specs.Order.{SYMBOLS_2, SYMBOLS_3, SYMBOLS, leaves_at, stood_at, symbols_at, interleaved, place_in_order, place_before, right_lengths, interleave_answer, interleave_bytes, deinterleave_answer, deinterleave_block2, deinterleave_block3};
 
 use words::bits::first_not_bit;
 use words::refusal::{Refusal, Rule};
@@ -63,7 +63,7 @@ pub fn place_before(index: usize) -> Result<usize, Refusal>
 
 // ---- judging
 
-// The blocks of subframe 2 and 3 and the symbols of both have their lengths; refused 1 at 0 unless they do.
+// Refused 1 at 0 unless the blocks of subframe 2 and 3 and the symbols of both have their lengths.
 fn judge_lengths(count2: usize, count3: usize, count: usize) -> Result<(), Refusal>
     ensures { result ≡ done_if (right_lengths count2 count3 count) LENGTH 0 }
 {
@@ -73,26 +73,16 @@ fn judge_lengths(count2: usize, count3: usize, count: usize) -> Result<(), Refus
     Err(Rule::Length.at(0))
 }
 
-// All symbols are bits, by the index of the first byte that is none; refused 2 there unless that is past the last symbol.
-fn judge_bits(first_not: usize) -> Result<(), Refusal>
-    ensures { result ≡ bits_answer first_not }
+// Refused 2 at the first byte that is neither 0 nor 1, where `before` others stand before these.
+fn judge_bits(before: usize, bytes: &[u8]) -> Result<(), Refusal>
+    requires { before + length bytes.now ≤ SYMBOLS }
+    ensures { result ≡ done_if (eqb (first_not_bit bytes.now) (length bytes.now)) NOT_A_BIT (before + first_not_bit bytes.now) }
 {
-    if first_not == SYMBOLS {
-        return Ok(());
+    let bad = first_not_bit(bytes);
+    if bad != bytes.len() {
+        return Err(Rule::NotABit.at(before + bad));
     }
-    Err(Rule::NotABit.at(first_not))
-}
-
-// The index of the first byte that is neither 0 nor 1, counted over the blocks one after another, or the number of bytes.
-fn first_not_bit_of(block2: &[u8], block3: &[u8]) -> usize
-    requires { length block2.now + length block3.now ≤ SYMBOLS }
-    ensures { result ≡ first_not_bit (block2.now ++ block3.now) }
-{
-    let place = first_not_bit(block2);
-    if place != block2.len() {
-        return place;
-    }
-    place + first_not_bit(block3)
+    Ok(())
 }
 
 // ---- into order
@@ -125,7 +115,8 @@ pub fn interleave(block2: &[u8], block3: &[u8], symbols: &mut [u8]) -> Result<()
         × (symbols.new ≡ interleave_bytes block2.now block3.now symbols.old) }
 {
     judge_lengths(block2.len(), block3.len(), symbols.len())?;
-    judge_bits(first_not_bit_of(block2, block3))?;
+    judge_bits(0, block2)?;
+    judge_bits(SYMBOLS_2, block3)?;
     put_in_order(block2, block3, symbols);
     Ok(())
 }
@@ -149,7 +140,7 @@ pub fn deinterleave(symbols: &[u8], block2: &mut [u8], block3: &mut [u8]) -> Res
         × (block3.new ≡ deinterleave_block3 symbols.now block2.old block3.old) }
 {
     judge_lengths(block2.len(), block3.len(), symbols.len())?;
-    judge_bits(first_not_bit(symbols))?;
+    judge_bits(0, symbols)?;
     take_block(symbols, 0, block2);
     take_block(symbols, SYMBOLS_2, block3);
     Ok(())
