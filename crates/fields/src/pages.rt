@@ -73,7 +73,7 @@ pub enum Kind {
 
 // A page: the counts of its fields, and the bits behind them that are carried as bits. A page 1 record uses 17 counts and 74 bits, a
 // page 6 record 30 counts, bare bits all 236 bits; what a kind does not use is zero when it is taken, and not looked at when it is put.
-#[derive(Clone, Copy)]
+#[derive(Clone, Copy, PartialEq, Eq)]
 pub struct Page {
     pub prn: u8,
     pub number: u8,

@@ -68,7 +68,7 @@ fn too_large_at(text: &[u8], taken: Result<Clock, Refusal>, place: usize) {
 
 pub(crate) fn too_large() {
     too_large_at(
-        b"af0 33554432 is refused 6 at 471",
+        b"af0 33554432 is refused 6 at 471, with plus zeros",
         clock_of(33554432, 0, 0),
         471,
     );

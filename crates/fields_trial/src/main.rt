@@ -3,7 +3,6 @@
 #![tactic(auto)]
 
 mod clock_of;
-mod counts;
 mod pages;
 mod places;
 mod put_pages;

@@ -27,7 +27,7 @@ fn page_with(kind: Kind, number: u8, k: usize, count: i64, at: usize, byte: u8) 
 // Refused, and the bytes stay.
 fn stays(text: &[u8], page: Page, number: u8, place: usize) {
     let mut bits = [9u8; 250];
-    refused(text, put_page(page, &mut bits), number, place);
+    refused(text, &put_page(page, &mut bits), number, place);
     expected(b"  and the bytes stay", bits == [9; 250]);
 }
 
@@ -39,7 +39,7 @@ fn length<const N: usize>(text: &[u8])
     requires { N ≤ 251 }
 {
     let mut bits = [9u8; N];
-    refused(text, put_page(bare(255), &mut bits), 1, 0);
+    refused(text, &put_page(bare(255), &mut bits), 1, 0);
     expected(b"  and the bytes stay", bits == [9; N]);
 }
 
@@ -119,7 +119,7 @@ pub(crate) fn ranges() {
 
 fn is_put(text: &[u8], page: Page) {
     let mut bits = [9u8; 250];
-    done(text, put_page(page, &mut bits));
+    done(text, &put_page(page, &mut bits));
 }
 
 // Page 1 has 17 counts and 74 bits, page 6 30 counts, bare bits all 236.

@@ -26,17 +26,23 @@ pub(crate) fn sizes() {
 }
 
 fn unsigned(text: &[u8], field: Field, width: usize, least: u64, most: u64) {
-    expected(
-        text,
-        field.width == width && !field.signed && field.least == least && field.most == most,
-    );
+    let row = Field {
+        width,
+        signed: false,
+        least,
+        most,
+    };
+    expected(text, field == row);
 }
 
 fn signed(text: &[u8], field: Field, width: usize, most: u64) {
-    expected(
-        text,
-        field.width == width && field.signed && field.least == 0 && field.most == most,
-    );
+    let row = Field {
+        width,
+        signed: true,
+        least: 0,
+        most,
+    };
+    expected(text, field == row);
 }
 
 fn two(k: usize) -> Field {

@@ -62,7 +62,7 @@ fn refused_in_turn(text: &[u8], x: f64) {
 
 pub(crate) fn no_numbers() {
     refused_in_turn(
-        b"counts_of what is no number is refused 6 at 471",
+        b"counts_of what is no number is refused 6 at 471, with zeros",
         0.0 / 0.0,
     );
     refused_in_turn(b"counts_of plus infinity is", 1.0 / 0.0);

@@ -18,7 +18,7 @@ use words::refusal::{Refusal, Rule};
 use words::time::{Time, read_time as read_word};
 
 // What reading a frame gives: its contents, and how many time symbols were corrected.
-#[derive(Clone, Copy)]
+#[derive(Clone, Copy, PartialEq, Eq)]
 pub struct Frame {
     pub toi: u16,
     pub corrected: u32,

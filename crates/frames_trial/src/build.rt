@@ -13,7 +13,7 @@ pub(crate) fn zeros() {
     let mut frame = [255u8; 1800];
     done(
         b"build of zeros is done",
-        build(0, &counts, &page, &mut frame),
+        &build(0, &counts, &page, &mut frame),
     );
     expected(b"  and the frame is 1800 zeros", frame == [0; 1800]);
 }
@@ -21,7 +21,7 @@ pub(crate) fn zeros() {
 // Refused, and the frame stays.
 fn stays(text: &[u8], toi: u16, counts: &[i64], page: &[u8], number: u8, place: usize) {
     let mut frame = [7u8; 1800];
-    refused(text, build(toi, counts, page, &mut frame), number, place);
+    refused(text, &build(toi, counts, page, &mut frame), number, place);
     expected(b"  and the frame stays", frame == [7; 1800]);
 }
 
@@ -53,7 +53,7 @@ fn into<const N: usize>(text: &[u8])
     let counts = [0i64; 33];
     let page = [0u8; 250];
     let mut frame = [7u8; N];
-    refused(text, build(0, &counts, &page, &mut frame), 1, 0);
+    refused(text, &build(0, &counts, &page, &mut frame), 1, 0);
     expected(b"  and it stays", frame == [7; N]);
 }
 
@@ -121,7 +121,7 @@ fn with_count(text: &[u8], k: usize, count: i64)
     let mut counts = [0i64; 33];
     let mut frame = [255u8; 1800];
     counts[k] = count;
-    done(text, build(399, &counts, &page, &mut frame));
+    done(text, &build(399, &counts, &page, &mut frame));
 }
 
 fn not_with_count(text: &[u8], k: usize, count: i64, place: usize)
@@ -153,13 +153,15 @@ pub(crate) fn extreme() {
     not_with_count(b"  with the most for isf 6 at 566", 32, i64::MAX, 566);
 }
 
-fn with_page(text: &[u8], count: i64, tot: u64, dn: u64, number: u8, place: usize) {
+fn with_page(text: &[u8], count: i64, tot: u16, dn: u8, number: u8, place: usize)
+    requires { dn < 16 }
+{
     let mut counts = [0i64; 33];
     let mut page = [0u8; 250];
     counts[32] = count;
-    put_number(&mut page, 8, 6, 1);
-    put_number(&mut page, 58, 16, tot);
-    put_number(&mut page, 100, 4, dn);
+    put_number(&mut page, 8, 6, 1).unwrap();
+    put_number(&mut page, 58, 16, u64::from(tot)).unwrap();
+    put_number(&mut page, 100, 4, u64::from(dn)).unwrap();
     stays(text, 0, &counts, &page, number, place);
 }
 

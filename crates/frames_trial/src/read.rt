@@ -1,51 +1,45 @@
 // The functions of `frames::read` on any bytes, on 1800 zeros and on a frame that was built.
-use super::counts::are_zeros;
 use frames::build::build;
-use frames::read::{read, read_subframe2, read_subframe3, read_time};
-use show::{done, expected, is_done, is_refused, same_counts};
+use frames::read::{Frame, read, read_subframe2, read_subframe3, read_time};
+use show::{done, expected, refused};
+use words::refusal::Refusal;
+use words::time::Time;
 
-// ---- refusals, with zeros beside them
+// ---- refusals: nothing else is given
 
 pub(crate) fn no_frame(text: &[u8], symbols: &[u8], number: u8, place: usize) {
     let frame = read(symbols);
-    let answer = frame.answer;
-    let counts = frame.counts;
-    let page = frame.page;
-    let zeros = [0u8; 250];
-    expected(text, is_refused(answer, number, place));
+    refused(text, &frame, number, place);
     expected(
         b"  and beside it are zeros",
-        frame.toi == 0 && frame.corrected == 0 && are_zeros(&counts) && check::same(&page, &zeros),
+        frame == Err(Refusal { number, place }),
     );
 }
 
 pub(crate) fn no_time(symbols: &[u8], number: u8, place: usize) {
-    let time = read_time(symbols);
-    let answer = time.answer;
-    expected(
+    refused(
         b"  read_time refuses it, with zeros",
-        is_refused(answer, number, place) && time.toi == 0 && time.corrected == 0,
+        &read_time(symbols),
+        number,
+        place,
     );
 }
 
 pub(crate) fn no_two(symbols: &[u8], number: u8, place: usize) {
-    let fields = read_subframe2(symbols);
-    let answer = fields.answer;
-    let counts = fields.counts;
-    expected(
+    refused(
         b"  read_subframe2 refuses it, with zeros",
-        is_refused(answer, number, place) && are_zeros(&counts),
+        &read_subframe2(symbols),
+        number,
+        place,
     );
 }
 
 pub(crate) fn no_three(symbols: &[u8], number: u8, place: usize) {
-    let bits = read_subframe3(symbols);
-    let answer = bits.answer;
-    let page = bits.page;
-    let zeros = [0u8; 250];
-    expected(
+    refused(
         b"  read_subframe3 refuses it, with zeros",
-        is_refused(answer, number, place) && check::same(&page, &zeros),
+        &read_subframe3(symbols),
+        number,
+        place,
     );
 }
 
@@ -95,72 +89,56 @@ pub(crate) fn no_bits() {
 // ---- contents
 
 pub(crate) fn is_time(symbols: &[u8], toi: u16, corrected: u32) {
-    let time = read_time(symbols);
-    let answer = time.answer;
     expected(
         b"  read_time reads it",
-        is_done(answer) && time.toi == toi && time.corrected == corrected,
+        read_time(symbols) == Ok(Time { toi, corrected }),
     );
 }
 
-pub(crate) fn is_two(symbols: &[u8], expected_counts: &[i64; 33]) {
-    let fields = read_subframe2(symbols);
-    let answer = fields.answer;
-    let counts = fields.counts;
+pub(crate) fn is_two(symbols: &[u8], counts: [i64; 33]) {
     expected(
         b"  read_subframe2 reads it",
-        is_done(answer) && same_counts(&counts, expected_counts),
+        read_subframe2(symbols) == Ok(counts),
     );
 }
 
-pub(crate) fn is_three(symbols: &[u8], expected_page: &[u8; 250]) {
-    let bits = read_subframe3(symbols);
-    let answer = bits.answer;
-    let page = bits.page;
+pub(crate) fn is_three(symbols: &[u8], page: [u8; 250]) {
     expected(
         b"  read_subframe3 reads it",
-        is_done(answer) && check::same(&page, expected_page),
+        read_subframe3(symbols) == Ok(page),
     );
 }
 
-pub(crate) fn is_whole(
-    text: &[u8],
-    symbols: &[u8],
-    toi: u16,
-    corrected: u32,
-    expected_counts: &[i64; 33],
-    expected_page: &[u8; 250],
-) {
+// The whole of it, and each part alone.
+fn all_read(text: &[u8], symbols: &[u8], contents: Frame) {
     let frame = read(symbols);
-    let answer = frame.answer;
-    let counts = frame.counts;
-    let page = frame.page;
-    expected(text, is_done(answer));
+    done(text, &frame);
     expected(
         b"  with its time",
-        frame.toi == toi && frame.corrected == corrected,
+        frame.is_ok_and(|frame| {
+            frame.toi == contents.toi && frame.corrected == contents.corrected
+        }),
     );
     expected(
         b"  with its counts and page bits",
-        same_counts(&counts, expected_counts) && check::same(&page, expected_page),
+        frame.is_ok_and(|frame| frame.counts == contents.counts && frame.page == contents.page),
     );
+    is_time(symbols, contents.toi, contents.corrected);
+    is_two(symbols, contents.counts);
+    is_three(symbols, contents.page);
 }
 
 pub(crate) fn zeros() {
-    let counts = [0i64; 33];
-    let page = [0u8; 250];
-    let symbols = [0u8; 1800];
-    is_whole(
+    all_read(
         b"read of 1800 zeros is done",
-        &symbols,
-        0,
-        0,
-        &counts,
-        &page,
+        &[0; 1800],
+        Frame {
+            toi: 0,
+            corrected: 0,
+            counts: [0; 33],
+            page: [0; 250],
+        },
     );
-    is_time(&symbols, 0, 0);
-    is_two(&symbols, &counts);
-    is_three(&symbols, &page);
 }
 
 pub(crate) fn built() {
@@ -172,10 +150,16 @@ pub(crate) fn built() {
     counts[29] = -4096;
     done(
         b"build of time 399, wn 8191, m0 -1, tgd -4096, a page of ones is done",
-        build(399, &counts, &page, &mut symbols),
+        &build(399, &counts, &page, &mut symbols),
     );
-    is_whole(b"  read reads it", &symbols, 399, 0, &counts, &page);
-    is_time(&symbols, 399, 0);
-    is_two(&symbols, &counts);
-    is_three(&symbols, &page);
+    all_read(
+        b"  read reads it",
+        &symbols,
+        Frame {
+            toi: 399,
+            corrected: 0,
+            counts,
+            page,
+        },
+    );
 }

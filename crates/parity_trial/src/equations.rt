@@ -6,18 +6,18 @@ use show::{done, refused};
 use tables::matrix::{Subframe, Submatrix, add, solve};
 
 fn unmet(text: &[u8], subframe: Subframe, block: &[u8], number: u8, place: usize) {
-    refused(text, first_unmet(subframe, block), number, place);
+    refused(text, &first_unmet(subframe, block), number, place);
 }
 
 pub(crate) fn met() {
     let zeros = [0u8; 1200];
     done(
         b"first_unmet of 1200 zeros of subframe 2 is done",
-        first_unmet(Subframe::Two, &zeros),
+        &first_unmet(Subframe::Two, &zeros),
     );
     done(
         b"first_unmet of 548 zeros of subframe 3 is done",
-        first_unmet(Subframe::Three, &zeros[0..548]),
+        &first_unmet(Subframe::Three, &zeros[0..548]),
     );
 }
 

@@ -10,7 +10,7 @@ use words::bits::put_number;
 fn filled<const N: usize>(text: &[u8], subframe: Subframe, mut block: [u8; N])
     requires { N ≤ 1200 }
 {
-    done(text, fill_parity(subframe, &mut block));
+    done(text, &fill_parity(subframe, &mut block));
     expected(b"  and all are zeros", block == [0; N]);
 }
 
@@ -19,7 +19,7 @@ fn zeros_behind<const N: usize>(put: &[u8], text: &[u8], subframe: Subframe)
     requires { N ≤ 1200 }
 {
     let mut block = [255u8; N];
-    done(put, put_number(&mut block, 0, N / 2, 0));
+    done(put, &put_number(&mut block, 0, N / 2, 0));
     filled(text, subframe, block);
 }
 
@@ -41,10 +41,10 @@ fn meets<const N: usize>(text: &[u8], subframe: Subframe)
     requires { N ≤ 1200 }
 {
     let mut block = [1u8; N];
-    done(text, fill_parity(subframe, &mut block));
+    done(text, &fill_parity(subframe, &mut block));
     done(
         b"  and every equation is met",
-        first_unmet(subframe, &block),
+        &first_unmet(subframe, &block),
     );
     expected(
         b"  and the data stays",
@@ -68,7 +68,7 @@ fn stays<const N: usize>(text: &[u8], subframe: Subframe, before: [u8; N], numbe
     requires { N ≤ 1201 }
 {
     let mut block = before;
-    refused(text, fill_parity(subframe, &mut block), number, place);
+    refused(text, &fill_parity(subframe, &mut block), number, place);
     expected(b"  and the bytes stay", block == before);
 }
 

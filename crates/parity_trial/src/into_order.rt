@@ -7,7 +7,7 @@ use show::{done, expected, refused};
 // Into order over garbage, and back over garbage.
 fn in_order(text: &[u8], block2: &[u8], block3: &[u8], after: &[u8; 1748]) {
     let mut symbols = [255u8; 1748];
-    done(text, interleave(block2, block3, &mut symbols));
+    done(text, &interleave(block2, block3, &mut symbols));
     expected(b"  and the symbols are those", symbols == *after);
 }
 
@@ -16,7 +16,7 @@ fn out_of_order(symbols: &[u8], after2: &[u8; 1200], after3: &[u8; 548]) {
     let mut block3 = [255u8; 548];
     done(
         b"  deinterleave of them is done",
-        deinterleave(symbols, &mut block2, &mut block3),
+        &deinterleave(symbols, &mut block2, &mut block3),
     );
     expected(b"  and block 2 is back", block2 == *after2);
     expected(b"  and block 3 is back", block3 == *after3);
@@ -81,7 +81,7 @@ fn not_in_order(text: &[u8], block2: &[u8], block3: &[u8], number: u8, place: us
     let mut symbols = [9u8; 1748];
     refused(
         text,
-        interleave(block2, block3, &mut symbols),
+        &interleave(block2, block3, &mut symbols),
         number,
         place,
     );
@@ -95,7 +95,7 @@ fn not_into<const N: usize>(text: &[u8])
     let block2 = [0u8; 1200];
     let block3 = [0u8; 548];
     let mut symbols = [9u8; N];
-    refused(text, interleave(&block2, &block3, &mut symbols), 1, 0);
+    refused(text, &interleave(&block2, &block3, &mut symbols), 1, 0);
     expected(b"  and the symbols stay", symbols == [9; N]);
 }
 

@@ -13,7 +13,7 @@ fn stay<const N: usize, const M: usize>(text: &[u8], symbols: &[u8], number: u8,
     let mut block3 = [9u8; M];
     refused(
         text,
-        deinterleave(symbols, &mut block2, &mut block3),
+        &deinterleave(symbols, &mut block2, &mut block3),
         number,
         place,
     );

@@ -15,22 +15,20 @@ fn signed(text: &[u8], bytes: &[u8], at: usize, width: usize, z: i64) {
 // Refused 1 at 0, with every byte left at `byte`.
 fn put_refused(text: &[u8], byte: u8, at: usize, width: usize, n: u64) {
     let mut row = [byte; 6];
-    let before = [byte; 6];
-    refused(text, put_number(&mut row, at, width, n), 1, 0);
-    expected(b"  and the bytes stay", row == before);
+    refused(text, &put_number(&mut row, at, width, n), 1, 0);
+    expected(b"  and the bytes stay", row == [byte; 6]);
 }
 
 fn put_signed_refused(text: &[u8], byte: u8, at: usize, width: usize, z: i64) {
     let mut row = [byte; 64];
-    let before = [byte; 64];
-    refused(text, put_signed(&mut row, at, width, z), 1, 0);
-    expected(b"  and the bytes stay", row == before);
+    refused(text, &put_signed(&mut row, at, width, z), 1, 0);
+    expected(b"  and the bytes stay", row == [byte; 64]);
 }
 
 // Put into garbage and read back.
 fn put_and_back(text: &[u8], at: usize, width: usize, z: i64) {
     let mut row = [254u8; 64];
-    done(text, put_signed(&mut row, at, width, z));
+    done(text, &put_signed(&mut row, at, width, z));
     signed(b"  and it is read back", &row, at, width, z);
 }
 
@@ -159,17 +157,17 @@ pub(crate) fn putting() {
     );
     refused(
         b"put_number into nothing is refused 1 at 0",
-        put_number(&mut row[0..0], 0, 1, 0),
+        &put_number(&mut row[0..0], 0, 1, 0),
         1,
         0,
     );
     done(
         b"put_number of no width is done",
-        put_number(&mut row, 6, 0, 0),
+        &put_number(&mut row, 6, 0, 0),
     );
     done(
         b"put_number of 5 in three bits at 2 is done",
-        put_number(&mut row, 2, 3, 5),
+        &put_number(&mut row, 2, 3, 5),
     );
     expected(
         b"  and the bytes are 7 7 1 0 1 7",
@@ -181,7 +179,7 @@ pub(crate) fn putting_wide() {
     let mut wide = [1u8; 80];
     done(
         b"put_number of the largest in 70 bits is done",
-        put_number(&mut wide, 5, 70, u64::MAX),
+        &put_number(&mut wide, 5, 70, u64::MAX),
     );
     number(b"  and it is read back", &wide, 11, 64, u64::MAX);
     number(b"  with zeros before it", &wide, 5, 6, 0);
@@ -251,10 +249,9 @@ pub(crate) fn magnitudes() {
 
 // Refused 1 at 0, with four bytes left at 9.
 fn copy_refused(text: &[u8], from: &[u8]) {
-    let before = [9u8; 4];
     let mut row = [9u8; 4];
-    refused(text, copy(from, &mut row), 1, 0);
-    expected(b"  and the bytes stay", row == before);
+    refused(text, &copy(from, &mut row), 1, 0);
+    expected(b"  and the bytes stay", row == [9; 4]);
 }
 
 pub(crate) fn not_copying() {
@@ -267,7 +264,7 @@ pub(crate) fn not_copying() {
 pub(crate) fn copying() {
     let from = [1u8, 255, 2, 3];
     let mut row = [9u8; 4];
-    done(b"copy of 4 bytes over 4 is done", copy(&from, &mut row));
+    done(b"copy of 4 bytes over 4 is done", &copy(&from, &mut row));
     expected(b"  and the bytes are 1 255 2 3", row == [1, 255, 2, 3]);
 }
 
@@ -276,12 +273,12 @@ pub(crate) fn copying_nothing() {
     let mut none = [0u8; 0];
     refused(
         b"copy of 2 bytes over nothing is refused 1 at 0",
-        copy(&from, &mut none),
+        &copy(&from, &mut none),
         1,
         0,
     );
     done(
         b"copy of nothing over nothing is done",
-        copy(&from[0..0], &mut none),
+        &copy(&from[0..0], &mut none),
     );
 }

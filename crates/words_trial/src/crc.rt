@@ -33,27 +33,26 @@ pub(crate) fn extreme() {
 }
 
 pub(crate) fn refusing() {
-    let before = [5u8; 23];
     let mut short = [5u8; 23];
     refused(
         b"put_check into nothing is refused 1 at 0",
-        put_check(&mut short[0..0]),
+        &put_check(&mut short[0..0]),
         1,
         0,
     );
     refused(
         b"put_check into 23 places is refused 1 at 0",
-        put_check(&mut short),
+        &put_check(&mut short),
         1,
         0,
     );
-    expected(b"  and the bytes stay", short == before);
+    expected(b"  and the bytes stay", short == [5; 23]);
 }
 
 pub(crate) fn putting() {
     let mut block = [1u8; 600];
     expected(b"600 ones are not right", !is_right(&block));
-    done(b"put_check into them is done", put_check(&mut block));
+    done(b"put_check into them is done", &put_check(&mut block));
     expected(b"  and they are right", is_right(&block));
     block[300] = 0;
     expected(b"  and not with a place changed", !is_right(&block));
