@@ -118,6 +118,14 @@ impl Kind {
         bit_count(self.table())
     }
 
+    // Refused 9 at the first bit, in the page, of the first field whose count is out of range.
+    fn judge(self, counts: &[i64]) -> Result<(), Refusal>
+        requires { length counts.now ≡ length (page_fields self) }
+        ensures { result ≡ counts_answer3 (page_fields self) counts.now }
+    {
+        self.table().judge(counts, HEAD_BITS, Rule::Field3)
+    }
+
     // The page number is the record's own; pages carried as bits have those up to 63 but 1 and 6.
     fn is_own(self, number: u8) -> bool
         ensures { result ≡ is_own self number }
@@ -189,8 +197,7 @@ fn judge_fields(bits: &[u8]) -> Result<(), Refusal>
 {
     let kind = kind_of(number_in(bits));
     let counts = counts_of(kind, bits);
-    let used = &counts[..kind.field_count()];
-    kind.table().judge(used, HEAD_BITS, Rule::Field3)
+    kind.judge(&counts[..kind.field_count()])
 }
 
 // Judges 250 page bits: refused 1, 2, then 9 at the first bit of the first field out of its range.
@@ -241,9 +248,7 @@ fn judge_record(page: &Page) -> Result<(), Refusal>
     if !page.kind.is_own(page.number) {
         return Err(Rule::Field3.at(NUMBER_BIT));
     }
-    page.kind
-        .table()
-        .judge(page.used_counts(), HEAD_BITS, Rule::Field3)
+    page.kind.judge(page.used_counts())
 }
 
 // PRN and a page number of six bits, before the body.
