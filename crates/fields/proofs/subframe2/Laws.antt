@@ -14,7 +14,7 @@ use Rattle.words.specs.Bits.{bits_judged, value_of, bits_of, bits_at, number_byt
 use Rattle.words.specs.Refusal.{LENGTH, FIELD_2, refused_at, done_if, in_turn, left_if, left_by, given_by, Answer, Done}
 use Rattle.words.specs.Laws.Turns.{both_done, test_done, not_done, judged_by_bits}
 use Rattle.fields.specs.Table.{fields_in, bit_count}
-use Rattle.fields.specs.Counts.{counts_in, bits_of_counts, first_out}
+use Rattle.fields.specs.Counts.{counts_in, bits_of_counts, first_out, out_answer}
 use Rattle.fields.specs.Subframe2.{bits2, first_out2, fields_answer, fields_read, counts_answer, counts_judged, fields_written, fields_bytes}
 use Rattle.fields.specs.Laws.Answers.{judged_bits, judged_length}
 use Rattle.fields.specs.Laws.Table.{count_subframe2, bits_subframe2}
@@ -29,19 +29,6 @@ use Rattle.fields.specs.declared.table.Table.TheVariants.{Subframe2}
 -- ---- judging counts
 
 module _ (zs : List ℤ) where
-  pub too_many : (length zs ≡ 33 → ⊥) → refused_at LENGTH 0 ≡ counts_judged zs
-  too_many n = ap (λ (t : Bool). in_turn (done_if t LENGTH 0) (counts_answer zs)) (sym (ne_eqb (length zs) 33 n))
-
-  by_first : (p : ℕ) → p ≡ first_out 0 (fields_in Subframe2) zs → length zs ≡ 33 → done_if (eqb p 0) FIELD_2 p ≡ counts_judged zs
-  by_first p e n =
-      ap (λ (q : ℕ). done_if (eqb q 0) FIELD_2 q) e ∙ ap (λ (t : Bool). in_turn (done_if t LENGTH 0) (counts_answer zs)) (sym (eq-eqb (length zs) 33 n))
-
-  pub some_out : (p : ℕ) → p ≡ first_out 0 (fields_in Subframe2) zs → length zs ≡ 33 → (p ≡ 0 → ⊥) → refused_at FIELD_2 p ≡ counts_judged zs
-  some_out p e n z = ap (λ (t : Bool). done_if t FIELD_2 p) (sym (ne_eqb p 0 z)) ∙ by_first p e n
-
-  pub none_out : (p : ℕ) → p ≡ first_out 0 (fields_in Subframe2) zs → length zs ≡ 33 → p ≡ 0 → Done ≡ counts_judged zs
-  none_out p e n z = ap (λ (t : Bool). done_if t FIELD_2 p) (sym (eq-eqb p 0 z)) ∙ by_first p e n
-
   -- counts that are not refused are 33 and in range
   pub done_counts : counts_judged zs ≡ Done → (length zs ≡ 33) × (first_out 0 (fields_in Subframe2) zs ≡ 0)
   done_counts e =
@@ -72,18 +59,19 @@ module _ (l : List ℕ) where
       ∙ ap (λ (t : Bool). cond t (cond (eqb (spare l) 0) 0 567) p) (ne_eqb p 0 n)) n
 
   -- so judging the counts that were read refuses as reading does
-  pub count_judged : (counts : List ℤ) (r : Refusal) → counts ≡ counts_in (fields_in Subframe2) l → length counts ≡ 33 → counts_judged counts ≡ Err r
-      → Err r ≡ given_by (fields_answer l) (counts_in (fields_in Subframe2) l)
-  count_judged counts r c n e = go (eqb place 0) refl
+  pub count_judged : (counts : List ℤ) (r : Refusal) → counts ≡ counts_in (fields_in Subframe2) l
+      → out_answer FIELD_2 0 (fields_in Subframe2) counts ≡ Err r → Err r ≡ given_by (fields_answer l) (counts_in (fields_in Subframe2) l)
+  count_judged counts r c e = go (eqb place 0) refl
     where
       place : ℕ
       place = first_out 0 (fields_in Subframe2) counts
 
+      is : (t : Bool) → eqb place 0 ≡ t → Err r ≡ done_if t FIELD_2 place
+      is t q = sym e ∙ ap (λ (t : Bool). done_if t FIELD_2 place) q
+
       go : (t : Bool) → eqb place 0 ≡ t → Err r ≡ given_by (fields_answer l) (counts_in (fields_in Subframe2) l)
-      go true q = absurd (not_done r.number r.place (sym e ∙ sym (none_out counts place refl n (eqb-true place 0 q))))
-      go false q =
-          ap (λ (a : Answer). given_by a []) (sym e ∙ sym (some_out counts place refl n (eqb-false place 0 q)))
-          ∙ count_out counts place c refl (eqb-false place 0 q)
+      go true q = absurd (not_done r.number r.place (is true q))
+      go false q = ap (λ (a : Answer). given_by a []) (is false q) ∙ count_out counts place c refl (eqb-false place 0 q)
 
   -- none of the 33: the reserved bits decide
   within_range : (counts : List ℤ) → counts ≡ counts_in (fields_in Subframe2) l → first_out 0 (fields_in Subframe2) counts ≡ 0

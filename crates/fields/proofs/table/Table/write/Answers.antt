@@ -1,4 +1,4 @@
--- `fields::counts::write_counts` meets its contract. Assumes nothing.
+-- `fields::table::Table::write` meets its contract. Assumes nothing.
 use Rattle.std.proofs.Common.{◌≡◌, ◌+◌, rules, sym, ◌∙◌, refl, arith}
 use Rattle.std.proofs.lemmas.Iterator.{empty_from_Zip}
 use Rattle.std.specs.Iterator.Adapters.{zip_first, zip_second}
@@ -6,14 +6,14 @@ use Rattle.std.specs.Slice.Iter.{iter_rest}
 use Rattle.fields.specs.Table.{bit_count, fields_in}
 use Rattle.fields.specs.Laws.Table.{bits_left, usable_left, usable_tables}
 use Rattle.fields.specs.Laws.Counts.{in_here, write_step, all_written}
-use Rattle.fields.proofs.counts.write_counts.Goals as goal
+use Rattle.fields.proofs.table.Table.write.Goals as goal
 
 pub loop-field-init : goal.loop-field-init
 loop-field-init c =
     let items = c.into_iter-field-iterator.result in
-    let fs : iter_rest (zip_first items) ≡ fields_in c.args.table = search rules in
+    let fs : iter_rest (zip_first items) ≡ fields_in c.args.self = search rules in
     let zs : iter_rest (zip_second items) ≡ c.args.counts.now = search rules in
-    rw (fs, zs) (sym c.requires.0, usable_tables c.args.table, refl, refl, c.requires.1.1, refl)
+    rw (fs, zs) (sym c.requires.0, usable_tables c.args.self, refl, refl, c.requires.1.1, refl)
 
 pub write-requires : goal.write-requires
 write-requires c =
@@ -33,7 +33,7 @@ loop-field-preserved c =
     let fine = in_here left.0 left.1 i.at i.invariant.4 in
     let ok = usable_left left.0 i.invariant.1 in
     let bits = bits_left left.0 in
-    let step = write_step left.0 left.1 i.bits i.at (c.args.from + bit_count (fields_in c.args.table)) (omega arith) (omega (arith, c.requires)) in (
+    let step = write_step left.0 left.1 i.bits i.at (c.args.from + bit_count (fields_in c.args.self)) (omega arith) (omega (arith, c.requires)) in (
       search rules,
       ok.1,
       search rules,

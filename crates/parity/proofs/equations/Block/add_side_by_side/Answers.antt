@@ -2,11 +2,12 @@
 use Rattle.std.proofs.Common.{drop-drop}
 use Rattle.tables.specs.Matrix.{matrix_of}
 use Rattle.parity.specs.Laws.Passed.{side_by_side}
-use Rattle.parity.proofs.equations.add_side_by_side.Goals as goal
+use Rattle.parity.proofs.equations.Block.add_side_by_side.Goals as goal
 
 pub returns : goal.returns
 unfolding side_by_side
 returns c =
+    let block = c.args.self.now in
     rw (
       c.add-3.ensures,
       c.add-2.ensures,
@@ -16,5 +17,5 @@ returns c =
       c.split_at.ensures.front,
       c.split_at.ensures.back,
       c.equations.ensures,
-      drop-drop 1 (matrix_of c.args.subframe).equations c.args.block.now,
+      drop-drop 1 (matrix_of block.subframe).equations block.symbols.now,
     )
