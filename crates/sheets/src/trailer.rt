@@ -1,11 +1,10 @@
 // The trailer of a sheet.
-ghost use Rattle.std.specs.Prelude.{◌≡◌, ◌≤◌, ◌+◌, length};
-ghost use Rattle.std.proofs.lemmas.List.Edits.{sets};
+ghost use Rattle.std.specs.Prelude.{◌≡◌, ◌++◌, ◌≤◌, ◌+◌, length};
 ghost use Rattle.sheets.specs.Trailer.{TRAILER_BYTES, start_of, trailer_text};
 ghost use Rattle.sheets.specs.Laws.Steps.{count_read};
 
 use super::number::read_digits;
-use super::text::put_bytes;
+use super::text::{SHEET_BYTES, SheetText};
 
 // What eleven bytes count, where they are a trailer.
 fn read_count(trailer: &[u8]) -> Option<u64>
@@ -42,11 +41,12 @@ pub fn sheet_start(bytes: &[u8]) -> usize
     place - back
 }
 
-// Writes the trailer after `count` bytes from `at` on, and gives the place behind it.
-pub(crate) fn put_trailer(out: &mut [u8], at: usize, count: usize) -> usize
-    requires { at + TRAILER_BYTES ≤ length out.old }
-    ensures { (result ≡ at + TRAILER_BYTES) × (out.new ≡ sets out.old at (trailer_text count)) }
+// Puts the trailer behind the lines of a sheet.
+pub(crate) fn put_trailer(sheet: &mut SheetText)
+    requires { length sheet.old + TRAILER_BYTES ≤ SHEET_BYTES }
+    ensures { sheet.new ≡ sheet.old ++ trailer_text (length sheet.old) }
 {
+    let count = sheet.len();
     let trailer = [
         b'b',
         b'a',
@@ -60,5 +60,5 @@ pub(crate) fn put_trailer(out: &mut [u8], at: usize, count: usize) -> usize
         b'0' + (count % 10) as u8,
         b'\n',
     ];
-    put_bytes(out, at, &trailer)
+    sheet.put(&trailer);
 }
