@@ -48,10 +48,7 @@ fn read_plain(text: &[u8]) -> Option<u64>
 fn within(field: Field, count: i64) -> Option<i64>
     ensures { result ≡ cond (in_range field count) (Some count) None }
 {
-    if in_range(field, count) {
-        return Some(count);
-    }
-    None
+    in_range(field, count).then_some(count)
 }
 
 // The number behind a `-`.

@@ -2,16 +2,24 @@
 ghost use Rattle.std.specs.Prelude.{◌≡◌, ◌≤◌, ◌<◌, ◌+◌, List, [], ◌∷◌, ◌++◌, ℕ, length, take};
 ghost use Rattle.sheets.specs.Text.{index_of};
 ghost use Rattle.sheets.specs.Number.{numeral};
+ghost use Rattle.sheets.specs.Laws.Steps.{first_at};
 ghost use Rattle.sheets.specs.declared.text.TheConstants.{SHEET_BYTES};
 
 use super::number::Digits;
 use std::marker::Model;
 
+// Where the first byte `b` stands, if there is one.
+pub(crate) fn first(bytes: &[u8], b: u8) -> Option<usize>
+    ensures { result ≡ first_at b bytes.now }
+{
+    bytes.iter().position(|x| *x == b)
+}
+
 // How many bytes stand before the first byte `b`: all, where there is none.
 pub fn find(bytes: &[u8], b: u8) -> usize
     ensures { result ≡ index_of b bytes.now }
 {
-    bytes.iter().position(|x| *x == b).unwrap_or(bytes.len())
+    first(bytes, b).unwrap_or(bytes.len())
 }
 
 // The most bytes that the sheet of good numbers has.
