@@ -11,7 +11,7 @@ use Rattle.sheets.specs.Laws.Text.{index_le}
 use Rattle.sheets.specs.Laws.Steps.{first_at}
 use lib.Pointwise.{pointwise}
 
-index_is : (b : ℕ) (l : List ℕ) → index_of b l ≡ position_or_len (λ x. eqb x b) l
+pub index_is : (b : ℕ) (l : List ℕ) → index_of b l ≡ position_or_len (λ x. eqb x b) l
 unfolding index_of
 index_is b l = is_position_or_len (index_of b) (λ x. eqb x b) refl (λ x xs. ap (λ n. cond (eqb x b) 0 n) (omega arith)) l
 
