@@ -18,6 +18,9 @@ use sheets::text::find;
 use sheets::trailer::sheet_start;
 use words::refusal::{Refusal, Rule};
 
+// Longer input is refused.
+pub const MOST_INPUT: usize = 8192;
+
 // The first line, without its newline, and the bytes behind it.
 fn split_line(input: &[u8]) -> Option<(&[u8], &[u8])>
     ensures { MatchOption result (index_of LINE_END input.now ≡ length input.now)
@@ -60,7 +63,7 @@ fn build_behind(page: &[u8; 250], bytes: &[u8]) -> Result<[u8; 1800], Refusal>
 fn build_input(input: &[u8]) -> Result<[u8; 1800], Refusal>
     ensures { result ≡ given_by (input_answer input.now) (frame_of (input_contents input.now)) }
 {
-    let too_long = 8192 < input.len();
+    let too_long = MOST_INPUT < input.len();
     if too_long {
         return Err(Rule::Length.at(0));
     }

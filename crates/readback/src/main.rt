@@ -8,7 +8,5 @@ fn main() {
     let mut input = [0u8; 1802];
     let count = io::read_full(0, &mut input);
     let output = print_sheet(&input[..count]);
-    let bytes = output.bytes;
-    let size = output.size;
-    io::write_all(1, &bytes[..size]);
+    io::write_all(1, &output.bytes[..output.size]);
 }
