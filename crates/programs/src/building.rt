@@ -10,6 +10,7 @@ ghost use Rattle.frames.specs.Build.{contents_answer};
 ghost use Rattle.programs.specs.Output.{OUTPUT_BYTES, symbol_line, output_of};
 ghost use Rattle.programs.specs.Building.{first_line, after_first, carried_contents, sheet_contents, behind_answer, input_answer, input_contents, printed_frame};
 
+use super::{FRAME, PAGE_BITS};
 use super::output::{Output, refusal_output};
 use super::symbols::take_symbols;
 use frames::build::build;
@@ -33,19 +34,19 @@ fn split_line(input: &[u8]) -> Option<(&[u8], &[u8])>
 }
 
 // The frame of a sheet's numbers, toi's first, and of a page.
-fn build_numbers(numbers: &[i64; 34], page: &[u8; 250]) -> Result<[u8; 1800], Refusal>
+fn build_numbers(numbers: &[i64; 34], page: &[u8; PAGE_BITS]) -> Result<[u8; FRAME], Refusal>
     requires { AllInRange sheet_fields numbers.now × IsBits page.now }
     ensures { result
         ≡ given_by (contents_answer (carried_contents numbers.now page.now)) (frame_of (carried_contents numbers.now page.now)) }
 {
     let toi = numbers[0] as u16;
-    let mut frame = [0u8; 1800];
+    let mut frame = [0u8; FRAME];
     build(toi, &numbers[1..], page, &mut frame)?;
     Ok(frame)
 }
 
 // The frame of the sheet behind the page line. Refused 10 at 0 where it does not begin right there, then as the sheet, then as the frame.
-fn build_behind(page: &[u8; 250], bytes: &[u8]) -> Result<[u8; 1800], Refusal>
+fn build_behind(page: &[u8; PAGE_BITS], bytes: &[u8]) -> Result<[u8; FRAME], Refusal>
     requires { IsBits page.now }
     ensures { result ≡ given_by (behind_answer page.now bytes.now) (frame_of (sheet_contents page.now bytes.now)) }
 {
@@ -60,7 +61,7 @@ fn build_behind(page: &[u8; 250], bytes: &[u8]) -> Result<[u8; 1800], Refusal>
 
 // The frame of the input, judged in turn: over 8192 bytes, the page line, the sheet, the frame. The page line is refused 1 at 0 where it
 // has no newline or another length, 2 at the first character that is neither `0` nor `1`.
-fn build_input(input: &[u8]) -> Result<[u8; 1800], Refusal>
+fn build_input(input: &[u8]) -> Result<[u8; FRAME], Refusal>
     ensures { result ≡ given_by (input_answer input.now) (frame_of (input_contents input.now)) }
 {
     let too_long = MOST_INPUT < input.len();
@@ -75,9 +76,9 @@ fn build_input(input: &[u8]) -> Result<[u8; 1800], Refusal>
 }
 
 // The symbols of a frame, as characters, and a newline.
-fn frame_output(frame: &[u8; 1800]) -> Output
+fn frame_output(frame: &[u8; FRAME]) -> Output
     requires { IsBits frame.now }
-    ensures { (result ≡ output_of (symbol_line frame.now)) × (result.size ≤ OUTPUT_BYTES) }
+    ensures { result ≡ output_of (symbol_line frame.now) }
 {
     let mut output = Output::new();
     output.put_line(frame);

@@ -8,6 +8,7 @@ ghost use Rattle.programs.specs.Symbols.{symbols_in};
 ghost use Rattle.programs.specs.Output.{OUTPUT_BYTES, output_of};
 ghost use Rattle.programs.specs.Reading.{frame_line, frame_line_answer, contents_text, printed_sheet};
 
+use super::FRAME;
 use super::output::{Output, refusal_output};
 use super::symbols::take_symbols;
 use frames::read::{Frame, read};
@@ -15,7 +16,7 @@ use words::refusal::{Refusal, Rule};
 
 // The symbols of the input, all but its newline. Refused 1 at 0 for another length or without its newline, 2 at the first character that
 // is neither `0` nor `1`.
-fn take_frame_line(input: &[u8]) -> Result<[u8; 1800], Refusal>
+fn take_frame_line(input: &[u8]) -> Result<[u8; FRAME], Refusal>
     ensures { result ≡ given_by (frame_line_answer input.now) (symbols_in (frame_line input.now)) }
 {
     let [line @ .., b'\n'] = input else {
@@ -45,8 +46,7 @@ fn numbers_of(toi: u16, counts: [i64; 33]) -> [i64; 34]
 // How many symbols were corrected, the page line and the sheet.
 fn contents_output(frame: Frame) -> Output
     requires { (frame.corrected ≤ 9) × GoodContents (contents_of frame.toi frame.counts frame.page) }
-    ensures { (result ≡ output_of (contents_text (contents_of frame.toi frame.counts frame.page) frame.corrected))
-        × (result.size ≤ OUTPUT_BYTES) }
+    ensures { result ≡ output_of (contents_text (contents_of frame.toi frame.counts frame.page) frame.corrected) }
 {
     let mut output = Output::new();
     output.put(b"corrected ");

@@ -14,4 +14,4 @@ returns c =
     c.put-3.new.self (c.put.ensures.size, c.put.ensures.bytes) (c.put_number.ensures.size, c.put_number.ensures.bytes)
     (c.put-2.ensures.size, c.put-2.ensures.bytes) (c.put_number-2.ensures.size, c.put_number-2.ensures.bytes)
     (c.put-3.ensures.size, c.put-3.ensures.bytes) in
-    (output_is (refusal_text number place) fresh.result c.put-3.new.self fresh.ensures.size fresh.ensures.bytes added (omega arith), omega arith)
+    output_is (refusal_text number place) fresh.result c.put-3.new.self fresh.ensures.size fresh.ensures.bytes added (omega arith)

@@ -30,4 +30,4 @@ returns c =
     (c.put.ensures.size, c.put.ensures.bytes) (c.put_number.ensures.size, c.put_number.ensures.bytes)
     (c.put-2.ensures.size, c.put-2.ensures.bytes)
     (line_added c.put-2.new.self frame.page page c.put_line.ensures.size c.put_line.ensures.bytes) sheet in
-    (output_is (contents_text contents frame.corrected) fresh.result output fresh.ensures.size fresh.ensures.bytes added (omega arith), omega arith)
+    output_is (contents_text contents frame.corrected) fresh.result output fresh.ensures.size fresh.ensures.bytes added (omega arith)
