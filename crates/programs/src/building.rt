@@ -10,9 +10,9 @@ ghost use Rattle.frames.specs.Build.{contents_answer};
 ghost use Rattle.programs.specs.Output.{OUTPUT_BYTES, symbol_line, output_of};
 ghost use Rattle.programs.specs.Building.{first_line, after_first, carried_contents, sheet_contents, behind_answer, input_answer, input_contents, printed_frame};
 
-use super::{FRAME, PAGE_BITS};
 use super::output::{Output, refusal_output};
 use super::symbols::take_symbols;
+use super::{FRAME, PAGE_BITS};
 use frames::build::build;
 use sheets::sheet::read_sheet;
 use sheets::text::find;

@@ -87,7 +87,7 @@ pub(crate) fn refusal_output(refusal: Refusal) -> Output
 {
     let mut output = Output::new();
     output.put(b"refused ");
-    output.put_number(refusal.number as u64);
+    output.put_number(u64::from(refusal.number));
     output.put(b" at ");
     output.put_number(refusal.place as u64);
     output.put(b"\n");

@@ -38,7 +38,7 @@ fn numbers_of(toi: u16, counts: [i64; 33]) -> [i64; 34]
     ensures { result ≡ pos toi ∷ counts }
 {
     let mut numbers = [0i64; 34];
-    numbers[0] = toi as i64;
+    numbers[0] = i64::from(toi);
     numbers[1..].copy_from_slice(&counts);
     numbers
 }
@@ -50,7 +50,7 @@ fn contents_output(frame: Frame) -> Output
 {
     let mut output = Output::new();
     output.put(b"corrected ");
-    output.put_number(frame.corrected as u64);
+    output.put_number(u64::from(frame.corrected));
     output.put(b"\n");
     output.put_line(&frame.page);
     let numbers = numbers_of(frame.toi, frame.counts);
