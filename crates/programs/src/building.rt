@@ -64,8 +64,7 @@ fn build_behind(page: &[u8; PAGE_BITS], bytes: &[u8]) -> Result<[u8; FRAME], Ref
 fn build_input(input: &[u8]) -> Result<[u8; FRAME], Refusal>
     ensures { result ≡ given_by (input_answer input.now) (frame_of (input_contents input.now)) }
 {
-    let too_long = MOST_INPUT < input.len();
-    if too_long {
+    if MOST_INPUT < input.len() {
         return Err(Rule::Length.at(0));
     }
     let Some((line, behind)) = split_line(input) else {
