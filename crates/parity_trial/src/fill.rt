@@ -79,7 +79,7 @@ fn length<const N: usize>(text: &[u8], subframe: Subframe)
     stays(text, subframe, [255; N], 1, 0);
 }
 
-pub(crate) fn lengths_two() {
+pub(crate) fn lengths() {
     length::<1199>(
         b"fill_parity into 1199 bytes, of subframe 2, is refused 1 at 0",
         Subframe::Two,
@@ -87,9 +87,6 @@ pub(crate) fn lengths_two() {
     length::<1201>(b"  into 1201 too", Subframe::Two);
     length::<548>(b"  into 548 too", Subframe::Two);
     length::<0>(b"  into nothing too", Subframe::Two);
-}
-
-pub(crate) fn lengths_three() {
     length::<547>(
         b"fill_parity into 547 bytes, of subframe 3, is refused 1 at 0",
         Subframe::Three,

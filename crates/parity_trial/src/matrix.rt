@@ -134,16 +134,10 @@ pub(crate) fn no_bits() {
     bit_by_bit(b"  over 255 turns 255 into 0", Subframe::Two, 255, 255, 0);
 }
 
-// A symbol over the first column alone, into zeros: its rows and no others get it.
-fn first_column(
-    text: &[u8],
-    subframe: Subframe,
-    submatrix: Submatrix,
-    symbol: u8,
-    rows: &[u8; 600],
-) {
+// A over a one in the first column, into zeros: its rows and no others get it.
+fn first_column(text: &[u8], subframe: Subframe, rows: &[u8; 600]) {
     let mut sums = [0u8; 600];
-    add(subframe, submatrix, &[symbol], &mut sums);
+    add(subframe, Submatrix::A, &[1], &mut sums);
     expected(text, sums == *rows);
 }
 
@@ -160,15 +154,11 @@ pub(crate) fn first_columns() {
     first_column(
         b"A of subframe 2 over a one: rows 1, 151 and 440",
         Subframe::Two,
-        Submatrix::A,
-        1,
         &two,
     );
     first_column(
         b"A of subframe 3 over a one: rows 1, 17 and 231",
         Subframe::Three,
-        Submatrix::A,
-        1,
         &three,
     );
 }
