@@ -53,13 +53,19 @@ fn with_number(text: &[u8], at: usize, width: usize, number: u64) -> [u8; 576] {
     bits
 }
 
-// Read as zeros with one other count.
-fn count_read(text: &[u8], bits: &[u8], k: usize, count: i64)
+// Zeros with one other count.
+pub(crate) fn with_count(k: usize, count: i64) -> [i64; 33]
     requires { k < 33 }
 {
     let mut counts = [0i64; 33];
     counts[k] = count;
-    expected(text, read_fields(bits) == Ok(counts));
+    counts
+}
+
+fn count_read(text: &[u8], bits: &[u8], k: usize, count: i64)
+    requires { k < 33 }
+{
+    expected(text, read_fields(bits) == Ok(with_count(k, count)));
 }
 
 pub(crate) fn known() {
