@@ -1,7 +1,7 @@
 // What the function `put_page` of `fields::pages` refuses, and what it does not look at.
 ghost use Rattle.std.specs.Prelude.{◌≤◌};
 
-use fields::pages::{A0, DN, Kind, Page, TEXT_PAGE, TOT, put_page};
+use fields::pages::{A0, BETA3, DN, Kind, Page, TEXT, TEXT_PAGE, TOT, put_page};
 use show::{done, expected, refused};
 
 // Counts that are DN 1, and one other; the body's bits are zeros but one byte.
@@ -94,56 +94,29 @@ pub(crate) fn numbers() {
     );
 }
 
-fn counted(kind: Kind, number: u8, k: usize, count: i64) -> Page {
-    page_with(kind, number, k, count, 0, 0)
+// One count, and it is refused 9.
+fn out_of_range(text: &[u8], kind: Kind, number: u8, k: usize, count: i64, place: usize) {
+    stays(text, page_with(kind, number, k, count, 0, 0), 9, place);
 }
 
 pub(crate) fn ranges() {
-    stays(
-        b"A0 32768 is refused 9 at 15",
-        counted(Kind::One, 1, A0, 32768),
-        9,
-        15,
-    );
-    stays(
-        b"A0 the least of all too",
-        counted(Kind::One, 1, A0, i64::MIN),
-        9,
-        15,
-    );
-    stays(
-        b"tot 37800 9 at 59",
-        counted(Kind::One, 1, TOT, 37800),
-        9,
-        59,
-    );
-    stays(b"tot -1 too", counted(Kind::One, 1, TOT, -1), 9, 59);
-    stays(b"DN 0 9 at 101", counted(Kind::One, 1, DN, 0), 9, 101);
-    stays(b"DN 8 too", counted(Kind::One, 1, DN, 8), 9, 101);
-    stays(
-        b"beta3 128 9 at 169",
-        counted(Kind::One, 1, 16, 128),
-        9,
-        169,
-    );
-    stays(
-        b"text page 16 9 at 15",
-        counted(Kind::Six, 6, TEXT_PAGE, 16),
-        9,
-        15,
-    );
-    stays(
+    out_of_range(b"A0 32768 is refused 9 at 15", Kind::One, 1, A0, 32768, 15);
+    out_of_range(b"A0 the least of all too", Kind::One, 1, A0, i64::MIN, 15);
+    out_of_range(b"tot 37800 9 at 59", Kind::One, 1, TOT, 37800, 59);
+    out_of_range(b"tot -1 too", Kind::One, 1, TOT, -1, 59);
+    out_of_range(b"DN 0 9 at 101", Kind::One, 1, DN, 0, 101);
+    out_of_range(b"DN 8 too", Kind::One, 1, DN, 8, 101);
+    out_of_range(b"beta3 128 9 at 169", Kind::One, 1, BETA3, 128, 169);
+    out_of_range(b"text page 16 9 at 15", Kind::Six, 6, TEXT_PAGE, 16, 15);
+    out_of_range(
         b"a first byte of text 256 9 at 19",
-        counted(Kind::Six, 6, 1, 256),
-        9,
+        Kind::Six,
+        6,
+        TEXT,
+        256,
         19,
     );
-    stays(
-        b"a last one of -1 9 at 243",
-        counted(Kind::Six, 6, 29, -1),
-        9,
-        243,
-    );
+    out_of_range(b"a last one of -1 9 at 243", Kind::Six, 6, 29, -1, 243);
 }
 
 fn is_put(text: &[u8], page: Page) {
