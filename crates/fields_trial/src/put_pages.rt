@@ -25,6 +25,7 @@ fn page_with(kind: Kind, number: u8, k: usize, count: i64, at: usize, byte: u8) 
 }
 
 // Into as many bytes: refused, and they stay.
+// It calls `put_page` itself: a closure of that call at each place below would be no plainer.
 fn stays_in<const N: usize>(text: &[u8], page: Page, number: u8, place: usize)
     requires { N ≤ 251 }
 {

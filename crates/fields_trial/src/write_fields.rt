@@ -7,6 +7,7 @@ use show::{done, expected, refused};
 use words::bits::take_signed;
 
 // Refused, and the bytes stay.
+// It calls `write_fields` itself: a closure of that call at each place below would be no plainer.
 fn stays<const N: usize>(text: &[u8], counts: &[i64], before: [u8; N], number: u8, place: usize)
     requires { N ≤ 577 }
 {

@@ -19,6 +19,7 @@ pub(crate) fn zeros() {
 }
 
 // Into a frame of that length: refused, and it stays, which the text `then` says.
+// It calls `build` itself: a closure of that call at each place below would be no plainer.
 fn stays_in<const N: usize>(
     text: &[u8],
     then: &[u8],

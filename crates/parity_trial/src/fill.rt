@@ -64,6 +64,7 @@ pub(crate) fn ones() {
 }
 
 // Refused, and the bytes stay.
+// It calls `fill_parity` itself: a closure of that call at each place below would be no plainer.
 fn stays<const N: usize>(text: &[u8], subframe: Subframe, before: [u8; N], number: u8, place: usize)
     requires { N ≤ 1201 }
 {

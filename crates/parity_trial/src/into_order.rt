@@ -69,6 +69,7 @@ pub(crate) fn single_ones() {
 // ---- refused
 
 // Into as many symbols: refused, and they stay.
+// It calls `interleave` itself: a closure of that call at each place below would be no plainer.
 fn stays<const N: usize>(text: &[u8], block2: &[u8], block3: &[u8], number: u8, place: usize)
     requires { N ≤ 1749 }
 {

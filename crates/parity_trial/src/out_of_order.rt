@@ -5,6 +5,7 @@ use parity::order::deinterleave;
 use show::{expected, refused};
 
 // Refused, into blocks of these lengths, which stay.
+// It calls `deinterleave` itself: a closure of that call at each place below would be no plainer.
 fn stay<const N: usize, const M: usize>(text: &[u8], symbols: &[u8], number: u8, place: usize)
     requires size2 { N ≤ 1201 }
     requires size3 { M ≤ 549 }
