@@ -73,7 +73,7 @@ fn unpack(text: &[u8; 450], frame: &mut [u8; 1800]) -> bool {
         let Some(four) = hex_digit(character) else {
             return false;
         };
-        put_number(frame, i * 4, 4, u64::from(four));
+        let _ = put_number(frame, i * 4, 4, u64::from(four));
     }
     true
 }
