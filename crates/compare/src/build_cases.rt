@@ -1,13 +1,10 @@
 // The cases that set the base, which is a frame and its contents: building, and frames that no builder makes.
 use super::base::Base;
-use super::bytes::all_are;
+use super::bytes::{GARBAGE, all_are};
 use super::contents::{Contents, read_symbols};
 use super::input::read_number;
 use super::told::{DONE, Told, read_told};
 use frames::build::build;
-
-// What a frame holds that is lent to be built in.
-const GARBAGE: u8 = 7;
 
 // ---- the base
 

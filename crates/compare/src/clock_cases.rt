@@ -1,6 +1,6 @@
 // The cases of clock terms: counts handed out, and terms taken back.
 use super::contents::read_counts;
-use super::input::{hex_digit, is_next, next_character};
+use super::input::{digit, is_next, next_character};
 use super::told::{DONE, Told, read_told, told_or_zeros};
 use clock::clock::{Clock, ClockCounts, clock_of, counts_of};
 
@@ -63,7 +63,7 @@ fn read_term() -> Option<u64> {
 }
 
 fn with_hex_digit(bits: Option<u64>, character: Option<u8>) -> Option<u64> {
-    let four = hex_digit(character?)?;
+    let four = digit(character?, 16)?;
     Some(bits? << 4 | u64::from(four))
 }
 

@@ -1,14 +1,11 @@
 // The cases of pages that are taken as records, and of records that are put.
-use super::bytes::{first_told, read_bits, set_places};
+use super::bytes::{GARBAGE, first_told, read_bits, set_places};
 use super::input::{is_next, read_number};
 use super::records::Record;
 use super::told::{DONE, Told, read_told};
 use fields::pages::{Page, judge_page, put_page, take_page};
 
-// What bytes hold that are lent to be put in, and what a record holds that its kind does not use.
-const GARBAGE: u8 = 7;
-
-const NO_COUNT: i64 = i64::MAX;
+const GARBAGE_COUNT: i64 = i64::MAX;
 
 // ---- taking
 
@@ -21,20 +18,16 @@ pub(crate) fn page_taken_agrees() -> bool {
     are_bits && are_places && taking_agrees(first_told(&bytes, length))
 }
 
+// The record, or nothing where it is refused.
 fn taking_agrees(bytes: &[u8]) -> bool {
     let mut record = Record::new([0; 30], [0; 236]);
     let told = read_told(b' ');
-    let is_record = read_taken(told, &mut record);
-    is_record && told == Some(judge_page(bytes)) && is_taken(bytes, told, &record)
-}
-
-// The record, or nothing where it is refused.
-fn read_taken(told: Told, record: &mut Record) -> bool {
-    if told == DONE {
+    let is_record = if told == DONE {
         record.read(b'\n')
     } else {
         is_next(b'\n')
-    }
+    };
+    is_record && told == Some(judge_page(bytes)) && is_taken(bytes, told, &record)
 }
 
 // What is taken is also put back.
@@ -54,17 +47,22 @@ fn is_put_back(bytes: &[u8], page: Page) -> bool {
 
 // What the kind does not use is garbage, which putting does not look at.
 pub(crate) fn page_put_agrees() -> bool {
-    let mut record = Record::new([NO_COUNT; 30], [GARBAGE; 236]);
+    let mut record = Record::new([GARBAGE_COUNT; 30], [GARBAGE; 236]);
     let room = read_number(4, b' ');
     let is_record = record.read(b' ');
     let are_places = set_places(&mut record.bits);
     is_record && are_places && record_put_agrees(record.page(), room)
 }
 
+// The page bits, or nothing where it is refused.
 fn record_put_agrees(page: Page, room: Option<usize>) -> bool {
     let mut expected = [GARBAGE; 251];
     let told = read_told(b' ');
-    let is_read = read_put(told, &mut expected);
+    let is_read = if told == DONE {
+        read_bits(&mut expected[..250], 1, b'\n')
+    } else {
+        is_next(b'\n')
+    };
     is_read && putting_agrees(page, room, told, &expected)
 }
 
@@ -73,19 +71,10 @@ fn putting_agrees(page: Page, room: Option<usize>, told: Told, expected: &[u8; 2
     first_put_agree(page, &mut bytes, room, told) && bytes == *expected
 }
 
-// The page bits, or nothing where it is refused.
-fn read_put(told: Told, expected: &mut [u8; 251]) -> bool {
-    if told == DONE {
-        read_bits(&mut expected[..250], 1, b'\n')
-    } else {
-        is_next(b'\n')
-    }
-}
-
 // Into the first `room` bytes.
 fn first_put_agree(page: Page, bytes: &mut [u8], room: Option<usize>, told: Told) -> bool {
-    match room {
-        Some(room) if room <= bytes.len() => told == Some(put_page(page, &mut bytes[..room])),
-        _ => false,
+    match room.and_then(|room| bytes.get_mut(..room)) {
+        Some(lent) => told == Some(put_page(page, lent)),
+        None => false,
     }
 }

@@ -9,16 +9,8 @@ use parity::fill::fill_parity;
 use tables::matrix::Subframe;
 use words::refusal::Rule;
 
-pub(crate) fn filled_two_agrees() -> bool {
-    filled_agrees::<1200>(Subframe::Two)
-}
-
-pub(crate) fn filled_three_agrees() -> bool {
-    filled_agrees::<548>(Subframe::Three)
-}
-
 // The first half of a block is its data. It is lent with ones in the other, so its parity is wrong until the library fills it.
-fn filled_agrees<const N: usize>(subframe: Subframe) -> bool
+pub(crate) fn filled_agrees<const N: usize>(subframe: Subframe) -> bool
     requires { N ≤ 1200 }
 {
     let mut expected = [0u8; N];
@@ -29,15 +21,7 @@ fn filled_agrees<const N: usize>(subframe: Subframe) -> bool
     is_read && answer.is_ok() && block == expected
 }
 
-pub(crate) fn unmet_two_agrees() -> bool {
-    unmet_agrees::<1200>(Subframe::Two, Rule::Equation2)
-}
-
-pub(crate) fn unmet_three_agrees() -> bool {
-    unmet_agrees::<548>(Subframe::Three, Rule::Equation3)
-}
-
-fn unmet_agrees<const N: usize>(subframe: Subframe, rule: Rule) -> bool
+pub(crate) fn unmet_agrees<const N: usize>(subframe: Subframe, rule: Rule) -> bool
     requires { N ≤ 1200 }
 {
     let mut block = [0u8; N];

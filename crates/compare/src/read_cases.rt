@@ -1,6 +1,6 @@
 // The cases of reading a frame that is made of the base.
 use super::base::Base;
-use super::bytes::{copy_first, first_told, set_places, with_byte};
+use super::bytes::{copy_first, first_told, set_byte, set_places};
 use super::contents::Contents;
 use super::input::read_number;
 use super::told::{read_told, told_or_zeros, told_with};
@@ -22,7 +22,7 @@ pub(crate) fn read_agrees(base: &Base, text: &mut [u8]) -> bool {
 // The symbols of the frame and a 0 behind them, with the places set that are told.
 fn read_symbols_of(base_frame: &[u8; 1800], text: &mut [u8]) -> bool {
     copy_first(base_frame, text);
-    with_byte(text, 1800, 0);
+    set_byte(text, 1800, 0);
     set_places(text)
 }
 

@@ -58,11 +58,7 @@ impl Record {
     }
 
     pub(crate) fn is_page(&self, page: &Page) -> bool {
-        page.prn == self.prn
-            && page.number == self.number
-            && self.kind == Some(page.kind)
-            && page.counts == self.counts
-            && page.bits == self.bits
+        self.kind == Some(page.kind) && self.page() == *page
     }
 }
 

@@ -1,6 +1,6 @@
 // The cases of sheets that are written, which set the base text, and of sheets that are read.
 use super::base::Base;
-use super::bytes::{are_then, copy_first, first_bytes, first_told};
+use super::bytes::{GARBAGE, are_then, copy_first, first_bytes, first_told};
 use super::contents::read_counts;
 use super::input::read_number;
 use super::texts::read_text;
@@ -8,9 +8,6 @@ use super::told::{DONE, Told, read_told, told_or_zeros};
 use sheets::sheet::{Sheet, before_sheet, read_sheet};
 use sheets::trailer::sheet_start;
 use sheets::write::write_sheet;
-
-// What bytes hold that are lent to be written in.
-const GARBAGE: u8 = 7;
 
 // ---- writing
 
@@ -45,11 +42,9 @@ fn first_written_agree(
     told: Told,
     size: usize,
 ) -> bool {
-    match room {
-        Some(room) if room <= out.len() => {
-            told_or_zeros(told, size, 0) == Some(write_sheet(numbers, &mut out[..room]))
-        }
-        _ => false,
+    match room.and_then(|room| out.get_mut(..room)) {
+        Some(lent) => told_or_zeros(told, size, 0) == Some(write_sheet(numbers, lent)),
+        None => false,
     }
 }
 
