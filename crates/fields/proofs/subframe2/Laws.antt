@@ -10,14 +10,12 @@ use lib.IntN.{ℤ}
 use lib.ListN.{length, take, drop, drop_of_length-le}
 use lib.Seq.{take_at}
 use borrow.Author.Tests.{eq-eqb, ne_eqb, eqb-true, eqb-false}
-use Rattle.words.specs.Bits.{first_not_bit, value_of, bits_of, bits_at, number_bytes}
-use Rattle.words.specs.Refusal.{LENGTH, NOT_A_BIT, FIELD_2, refused_at, done_if, in_turn, left_if, left_by, given_by, Answer, Done}
-use Rattle.words.specs.Laws.Digits.{bits_none, none_not_bit}
+use Rattle.words.specs.Bits.{value_of, bits_of, bits_at, number_bytes}
+use Rattle.words.specs.Refusal.{LENGTH, FIELD_2, refused_at, done_if, in_turn, left_if, left_by, given_by, Answer, Done}
 use Rattle.words.specs.Laws.Turns.{both_done, test_done, not_done}
 use Rattle.fields.specs.Table.{fields_in, bit_count}
 use Rattle.fields.specs.Counts.{counts_in, bits_of_counts, first_out, out_answer}
-use Rattle.fields.specs.Subframe2.{bits2, first_out2, fields_answer, fields_read, counts_answer, counts_judged, fields_written, fields_bytes}
-use Rattle.fields.specs.Laws.Answers.{judged_bits, judged_right, judged_length, judged_byte}
+use Rattle.fields.specs.Subframe2.{bits2, first_out2, fields_answer, counts_answer, counts_judged, fields_written, fields_bytes}
 use Rattle.fields.specs.Laws.Table.{count_subframe2, bits_subframe2}
 use Rattle.fields.specs.Laws.Counts.{out_of_two}
 use Rattle.fields.specs.Laws.Subframe2.{spare, bits2_is, first_out2_lem}
@@ -99,23 +97,6 @@ module _ (l : List ℕ) where
   all_in counts c e n =
       ap (λ (x : List ℤ). given_by Done x) c
       ∙ by_place 0 (within_range counts c e ∙ ap (λ (v : ℕ). cond (eqb v 0) 0 567) n)
-
-  -- what is judged before
-  by_answer : (a : Answer) → judged_bits 576 (length l) l (fields_answer l) ≡ a → given_by a (counts_in (fields_in Subframe2) l) ≡ fields_read l
-  by_answer a e = ap (λ (x : Answer). given_by x (counts_in (fields_in Subframe2) l)) (sym e)
-
-  pub wrong_length : (length l ≡ 576 → ⊥) → refused_at LENGTH 0 ≡ fields_read l
-  wrong_length n = by_answer (refused_at LENGTH 0) (judged_length 576 (length l) l (fields_answer l) n)
-
-  pub wrong_byte : length l ≡ 576 → (p : ℕ) → p ≡ first_not_bit l → (p ≡ length l → ⊥) → refused_at NOT_A_BIT p ≡ fields_read l
-  wrong_byte e p q n =
-      ap (refused_at NOT_A_BIT) q
-      ∙ by_answer (refused_at NOT_A_BIT (first_not_bit l)) (judged_byte 576 (length l) l (fields_answer l) e (λ h. n (q ∙ bits_none l h)))
-
-  pub right_bits : length l ≡ 576 → (p : ℕ) → p ≡ first_not_bit l → p ≡ length l
-      → given_by (fields_answer l) (counts_in (fields_in Subframe2) l) ≡ fields_read l
-  right_bits e p q n =
-      by_answer (fields_answer l) (judged_right 576 (length l) l (fields_answer l) e (none_not_bit l (sym q ∙ n)))
 
 -- ---- writing
 
