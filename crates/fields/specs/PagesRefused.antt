@@ -92,8 +92,8 @@ module _ (l : List ℕ) where
   taken_as_judged = given_answer (page_answer l) (record_of (kind_of (number_in l)) l)
 
   -- A refusal gives nothing else.
-  pub refused_zeros : (r : Refusal) → page_answer l ≡ Err r → page_taken l ≡ Err r
-  refused_zeros r e = ap (λ (a : Answer). given_by a (record_of (kind_of (number_in l)) l)) e
+  pub refused_only : (r : Refusal) → page_answer l ≡ Err r → page_taken l ≡ Err r
+  refused_only r e = ap (λ (a : Answer). given_by a (record_of (kind_of (number_in l)) l)) e
 
 -- ---- putting
 

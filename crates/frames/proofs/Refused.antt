@@ -29,8 +29,8 @@ refused_exactly f n p =
     (rw (answer_by_lem (frame_answer f) (contents_in f) (corrected_read (time_read (time_in f)))) (frame_verdict f)) n p
 
 -- Beside that refusal stand zeros.
-pub refused_zeros : (f : List ℕ) (n p : ℕ) → FrameDue f n p → frame_read f ≡ refused_at n p
-refused_zeros f n p d =
+pub refused_only : (f : List ℕ) (n p : ℕ) → FrameDue f n p → frame_read f ≡ refused_at n p
+refused_only f n p d =
     ap (λ (a : Answer). given_by a (frame_is (contents_in f) (corrected_read (time_read (time_in f))))) (frame_due_refused f n p d).0
 
 -- Reading a subframe alone refuses with number n at p exactly where that is due, 1, 2, then only 4 5 6 or only 7 8 9.
@@ -39,9 +39,9 @@ alone_refused_exactly s f n p =
     refused_by (alone_answer s f) (AloneDue s f)
     (λ m q d. (alone_is s f ∙ (alone_due_refused s f m q d).0, (alone_due_refused s f m q d).1)) (rw (alone_is s f) (alone_verdict s f)) n p
 
-pub subframe2_refused_zeros : (f : List ℕ) (n p : ℕ) → AloneDue Two f n p → subframe2_alone f ≡ refused_at n p
-subframe2_refused_zeros f n p d =
+pub subframe2_refused_only : (f : List ℕ) (n p : ℕ) → AloneDue Two f n p → subframe2_alone f ≡ refused_at n p
+subframe2_refused_only f n p d =
     ap (λ (a : Answer). given_by a (counts_in (fields_in Subframe2) (bits_in Two f))) (alone_due_refused Two f n p d).0
 
-pub subframe3_refused_zeros : (f : List ℕ) (n p : ℕ) → AloneDue Three f n p → subframe3_alone f ≡ refused_at n p
-subframe3_refused_zeros f n p d = ap (λ (a : Answer). given_by a (bits_in Three f)) (alone_due_refused Three f n p d).0
+pub subframe3_refused_only : (f : List ℕ) (n p : ℕ) → AloneDue Three f n p → subframe3_alone f ≡ refused_at n p
+subframe3_refused_only f n p d = ap (λ (a : Answer). given_by a (bits_in Three f)) (alone_due_refused Three f n p d).0

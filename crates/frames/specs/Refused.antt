@@ -14,5 +14,5 @@ time_refused_exactly f n p =
     refused_by (answer_of (time_alone f)) (TimeDue f)
     (λ m q d. (ap answer_of (time_due_refused f m q d).0, (time_due_refused f m q d).1)) (time_verdict f) n p
 
-pub time_refused_zeros : (f : List ℕ) (n p : ℕ) → TimeDue f n p → time_alone f ≡ refused_at n p
-time_refused_zeros f n p d = (time_due_refused f n p d).0
+pub time_refused_only : (f : List ℕ) (n p : ℕ) → TimeDue f n p → time_alone f ≡ refused_at n p
+time_refused_only f n p d = (time_due_refused f n p d).0

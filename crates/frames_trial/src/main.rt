@@ -3,7 +3,6 @@
 #![tactic(auto)]
 
 mod build;
-mod counts;
 mod read;
 mod read_alone;
 

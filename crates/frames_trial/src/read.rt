@@ -1,59 +1,75 @@
 // The functions of `frames::read` on any bytes, on 1800 zeros and on a frame that was built.
-use super::counts::are_zeros;
 use frames::build::build;
-use frames::read::{read, read_subframe2, read_subframe3, read_time};
-use show::{done, expected, is_done, is_refused, same_counts};
+use frames::read::{Frame, read, read_subframe2, read_subframe3, read_time};
+use show::{done, expected, refused};
+use words::refusal::{Refusal, refuse};
+use words::time::Time;
 
-// ---- refusals, with zeros beside them
+// What each part of a frame is read as alone.
+#[derive(Clone, Copy)]
+pub(crate) struct Parts {
+    pub(crate) time: Result<Time, Refusal>,
+    pub(crate) counts: Result<[i64; 33], Refusal>,
+    pub(crate) page: Result<[u8; 250], Refusal>,
+}
+
+// One part, with a text for where it is read and one for where it is refused.
+fn alone<T: PartialEq + Copy>(
+    reads: &[u8],
+    refuses: &[u8],
+    read: Result<T, Refusal>,
+    part: Result<T, Refusal>,
+) {
+    let text = if part.is_ok() { reads } else { refuses };
+    expected(text, read == part);
+}
+
+pub(crate) fn time_alone(symbols: &[u8], time: Result<Time, Refusal>) {
+    alone(
+        b"  read_time reads it",
+        b"  read_time refuses it, with zeros",
+        read_time(symbols),
+        time,
+    );
+}
+
+pub(crate) fn parts_alone(symbols: &[u8], parts: Parts) {
+    time_alone(symbols, parts.time);
+    alone(
+        b"  read_subframe2 reads it",
+        b"  read_subframe2 refuses it, with zeros",
+        read_subframe2(symbols),
+        parts.counts,
+    );
+    alone(
+        b"  read_subframe3 reads it",
+        b"  read_subframe3 refuses it, with zeros",
+        read_subframe3(symbols),
+        parts.page,
+    );
+}
+
+// ---- refusals: nothing else is given
 
 pub(crate) fn no_frame(text: &[u8], symbols: &[u8], number: u8, place: usize) {
     let frame = read(symbols);
-    let answer = frame.answer;
-    let counts = frame.counts;
-    let page = frame.page;
-    let zeros = [0u8; 250];
-    expected(text, is_refused(answer, number, place));
+    refused(text, &frame, number, place);
     expected(
         b"  and beside it are zeros",
-        frame.toi == 0 && frame.corrected == 0 && are_zeros(&counts) && check::same(&page, &zeros),
-    );
-}
-
-pub(crate) fn no_time(symbols: &[u8], number: u8, place: usize) {
-    let time = read_time(symbols);
-    let answer = time.answer;
-    expected(
-        b"  read_time refuses it, with zeros",
-        is_refused(answer, number, place) && time.toi == 0 && time.corrected == 0,
-    );
-}
-
-pub(crate) fn no_two(symbols: &[u8], number: u8, place: usize) {
-    let fields = read_subframe2(symbols);
-    let answer = fields.answer;
-    let counts = fields.counts;
-    expected(
-        b"  read_subframe2 refuses it, with zeros",
-        is_refused(answer, number, place) && are_zeros(&counts),
-    );
-}
-
-pub(crate) fn no_three(symbols: &[u8], number: u8, place: usize) {
-    let bits = read_subframe3(symbols);
-    let answer = bits.answer;
-    let page = bits.page;
-    let zeros = [0u8; 250];
-    expected(
-        b"  read_subframe3 refuses it, with zeros",
-        is_refused(answer, number, place) && check::same(&page, &zeros),
+        frame == Err(Refusal { number, place }),
     );
 }
 
 fn all_refuse(text: &[u8], symbols: &[u8], number: u8, place: usize) {
     no_frame(text, symbols, number, place);
-    no_time(symbols, number, place);
-    no_two(symbols, number, place);
-    no_three(symbols, number, place);
+    parts_alone(
+        symbols,
+        Parts {
+            time: refuse(number, place),
+            counts: refuse(number, place),
+            page: refuse(number, place),
+        },
+    );
 }
 
 pub(crate) fn lengths() {
@@ -94,73 +110,44 @@ pub(crate) fn no_bits() {
 
 // ---- contents
 
-pub(crate) fn is_time(symbols: &[u8], toi: u16, corrected: u32) {
-    let time = read_time(symbols);
-    let answer = time.answer;
-    expected(
-        b"  read_time reads it",
-        is_done(answer) && time.toi == toi && time.corrected == corrected,
-    );
-}
-
-pub(crate) fn is_two(symbols: &[u8], expected_counts: &[i64; 33]) {
-    let fields = read_subframe2(symbols);
-    let answer = fields.answer;
-    let counts = fields.counts;
-    expected(
-        b"  read_subframe2 reads it",
-        is_done(answer) && same_counts(&counts, expected_counts),
-    );
-}
-
-pub(crate) fn is_three(symbols: &[u8], expected_page: &[u8; 250]) {
-    let bits = read_subframe3(symbols);
-    let answer = bits.answer;
-    let page = bits.page;
-    expected(
-        b"  read_subframe3 reads it",
-        is_done(answer) && check::same(&page, expected_page),
-    );
-}
-
-pub(crate) fn is_whole(
-    text: &[u8],
-    symbols: &[u8],
-    toi: u16,
-    corrected: u32,
-    expected_counts: &[i64; 33],
-    expected_page: &[u8; 250],
-) {
+// The whole of it, and each part alone.
+fn all_read(text: &[u8], symbols: &[u8], contents: Frame) {
     let frame = read(symbols);
-    let answer = frame.answer;
-    let counts = frame.counts;
-    let page = frame.page;
-    expected(text, is_done(answer));
+    done(text, &frame);
     expected(
         b"  with its time",
-        frame.toi == toi && frame.corrected == corrected,
+        frame.is_ok_and(|frame| {
+            frame.toi == contents.toi && frame.corrected == contents.corrected
+        }),
     );
     expected(
         b"  with its counts and page bits",
-        same_counts(&counts, expected_counts) && check::same(&page, expected_page),
+        frame.is_ok_and(|frame| frame.counts == contents.counts && frame.page == contents.page),
+    );
+    parts_alone(
+        symbols,
+        Parts {
+            time: Ok(Time {
+                toi: contents.toi,
+                corrected: contents.corrected,
+            }),
+            counts: Ok(contents.counts),
+            page: Ok(contents.page),
+        },
     );
 }
 
 pub(crate) fn zeros() {
-    let counts = [0i64; 33];
-    let page = [0u8; 250];
-    let symbols = [0u8; 1800];
-    is_whole(
+    all_read(
         b"read of 1800 zeros is done",
-        &symbols,
-        0,
-        0,
-        &counts,
-        &page,
+        &[0; 1800],
+        Frame {
+            toi: 0,
+            corrected: 0,
+            counts: [0; 33],
+            page: [0; 250],
+        },
     );
-    is_time(&symbols, 0, 0);
-    is_two(&symbols, &counts);
-    is_three(&symbols, &page);
 }
 
 pub(crate) fn built() {
@@ -172,10 +159,16 @@ pub(crate) fn built() {
     counts[29] = -4096;
     done(
         b"build of time 399, wn 8191, m0 -1, tgd -4096, a page of ones is done",
-        build(399, &counts, &page, &mut symbols),
+        &build(399, &counts, &page, &mut symbols),
     );
-    is_whole(b"  read reads it", &symbols, 399, 0, &counts, &page);
-    is_time(&symbols, 399, 0);
-    is_two(&symbols, &counts);
-    is_three(&symbols, &page);
+    all_read(
+        b"  read reads it",
+        &symbols,
+        Frame {
+            toi: 399,
+            corrected: 0,
+            counts,
+            page,
+        },
+    );
 }

@@ -1,29 +1,15 @@
 // The functions `place_in_order` and `place_before` of `parity::order`.
-use parity::order::{Place, place_before, place_in_order};
-use show::{expected, is_done, is_refused};
-
-fn is_at(place: Place, index: usize) -> bool {
-    let answer = place.answer;
-    place.index == index && is_done(answer)
-}
-
-// A refusal, with zero beside it.
-fn is_nowhere(place: Place) -> bool {
-    let answer = place.answer;
-    place.index == 0 && is_refused(answer, 1, 0)
-}
+use parity::order::{place_before, place_in_order};
+use show::{expected, refused};
 
 fn known(text: &[u8], index: usize, at: usize) {
-    expected(text, is_at(place_in_order(index), at));
-    expected(b"  and stood there", is_at(place_before(at), index));
+    expected(text, place_in_order(index) == Ok(at));
+    expected(b"  and stood there", place_before(at) == Ok(index));
 }
 
 fn nowhere(text: &[u8], index: usize) {
-    expected(text, is_nowhere(place_in_order(index)));
-    expected(
-        b"  and place_before of it too",
-        is_nowhere(place_before(index)),
-    );
+    refused(text, &place_in_order(index), 1, 0);
+    refused(b"  and place_before of it too", &place_before(index), 1, 0);
 }
 
 pub(crate) fn first() {

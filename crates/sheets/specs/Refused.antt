@@ -16,10 +16,10 @@ by_answer (Ok u) s n p r = absurd (r.some (sym r.number_is))
 by_answer (Err x) s n p r = ap Err (refusal_is x n p r.number_is r.place_is)
 
 -- A refusal gives nothing else.
-pub refused_zeros : (s : List ℕ) (n p : ℕ) → RefusesWith (sheet_answer s) n p → sheet_read s ≡ refused_at n p
+pub refused_only : (s : List ℕ) (n p : ℕ) → RefusesWith (sheet_answer s) n p → sheet_read s ≡ refused_at n p
 unfolding sheet_read
-refused_zeros s n p r = by_answer (sheet_answer s) s n p r
+refused_only s n p r = by_answer (sheet_answer s) s n p r
 
 -- And the part before a sheet that is refused is empty.
 pub refused_empty : (s : List ℕ) (n p : ℕ) → RefusesWith (sheet_answer s) n p → before_sheet s ≡ []
-refused_empty s n p r = ap (λ (x : Result Sheet Refusal). take (sheet_before x) s) (refused_zeros s n p r)
+refused_empty s n p r = ap (λ (x : Result Sheet Refusal). take (sheet_before x) s) (refused_only s n p r)

@@ -8,7 +8,7 @@ use Rattle.words.specs.declared.refusal.Refusal.{Refusal}
 use Rattle.frames.specs.Due.{RefusesWith}
 use Rattle.sheets.specs.Sheet.{sheet_answer, sheet_read}
 use Rattle.sheets.specs.Walk.{step_at, place_after}
-use Rattle.sheets.specs.Refused.{refused_zeros}
+use Rattle.sheets.specs.Refused.{refused_only}
 use Rattle.sheets.specs.declared.sheet.Sheet.{Sheet}
 
 -- At place 0 the walk is finished.
@@ -35,5 +35,5 @@ walk_reads s place some inside =
 pub walk_stays : (s : List ℕ) (place n p : ℕ) → 0 < place → place ≤ length s → RefusesWith (sheet_answer (take place s)) n p
     → (step_at s place ≡ Some (refused_at n p)) × (place_after (step_at s place) place ≡ place)
 walk_stays s place n p some inside r =
-    let step = walk_reads s place some inside ∙ ap Some (refused_zeros (take place s) n p r) in
+    let step = walk_reads s place some inside ∙ ap Some (refused_only (take place s) n p r) in
     (step, ap (λ (x : Option (Result Sheet Refusal)). place_after x place) step)

@@ -11,7 +11,7 @@ use super::trailer::find_start;
 use words::refusal::{Refusal, Rule};
 
 // What reading a sheet gives: its numbers, toi's first, and how many bytes stand before it.
-#[derive(Clone, Copy)]
+#[derive(Clone, Copy, PartialEq, Eq)]
 pub struct Sheet {
     pub numbers: [i64; 34],
     pub before: usize,

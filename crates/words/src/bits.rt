@@ -1,8 +1,8 @@
 // Bits, one to a byte, the most significant first, and the numbers that they stand for.
-ghost use Rattle.std.specs.Prelude.{◌≡◌, true, ◌&&◌, ◌+◌, ◌-◌, ◌%◌, ◌^◌, ◌≤◌, ◌<◌, min, pos, negsuc, eqb, leb, ltb, length};
+ghost use Rattle.std.specs.Prelude.{◌≡◌, true, ◌&&◌, ◌+◌, ◌-◌, ◌%◌, ◌^◌, ◌≤◌, ◌<◌, pos, negsuc, eqb, leb, ltb, length};
 ghost use Rattle.std.proofs.lemmas.List.Edits.{sets};
 ghost use Rattle.std.specs.Int.Signed.{mag};
-ghost use Rattle.words.specs.Bits.{first_not_bit, value_of, bits_of, signed_of, unsigned_of, bits_at, holds_signed, number_answer, number_bytes, signed_answer, signed_bytes, copy_answer, copy_bytes};
+ghost use Rattle.words.specs.Bits.{first_not_bit, bits_judged, value_of, bits_of, signed_of, unsigned_of, bits_at, holds_signed, number_answer, number_bytes, signed_answer, signed_bytes, copy_answer, copy_bytes};
 
 use super::refusal::{Refusal, Rule};
 
@@ -11,10 +11,8 @@ fn are_bits(bytes: &[u8]) -> bool
     ensures { result ≡ eqb (first_not_bit bytes.now) (length bytes.now) }
 {
     let mut seen: u8 = 0;
-    let mut i: usize = 0;
-    while i < bytes.len() {
-        seen = seen | bytes[i];
-        i += 1;
+    for byte in bytes {
+        seen |= *byte;
     }
     seen <= 1
 }
@@ -26,15 +24,21 @@ pub fn first_not_bit(bytes: &[u8]) -> usize
     if are_bits(bytes) {
         return bytes.len();
     }
-    let mut i: usize = 0;
-    while i < bytes.len() {
-        let no_bit = 1 < bytes[i];
-        if no_bit {
-            return i;
-        }
-        i += 1;
+    bytes
+        .iter()
+        .position(|byte| 1 < *byte)
+        .unwrap_or(bytes.len())
+}
+
+// Whether all bytes are bits: refused 2 at the first that is neither 0 nor 1.
+pub fn judge_bits(bytes: &[u8]) -> Result<(), Refusal>
+    ensures { result ≡ bits_judged bytes.now }
+{
+    let bad = first_not_bit(bytes);
+    if bad != bytes.len() {
+        return Err(Rule::NotABit.at(bad));
     }
-    i
+    Ok(())
 }
 
 // ---- taking
@@ -43,22 +47,14 @@ pub fn first_not_bit(bytes: &[u8]) -> usize
 fn bits_at(bytes: &[u8], at: usize, width: usize) -> &[u8]
     ensures { result.now ≡ bits_at bytes.now at width }
 {
-    let from = least(at, bytes.len());
-    let count = least(least(width, 64), bytes.len() - from);
-    let end = from + count;
-    &bytes[from..end]
-}
-
-fn least(a: usize, b: usize) -> usize
-    ensures { result ≡ min a b }
-{
-    if a < b { a } else { b }
+    let rest = &bytes[at.min(bytes.len())..];
+    &rest[..width.min(64).min(rest.len())]
 }
 
 fn low_bit(byte: u8) -> u64
     ensures { result ≡ byte % 2 }
 {
-    (byte % 2) as u64
+    u64::from(byte % 2)
 }
 
 // The number that at most 64 bits stand for.
@@ -67,10 +63,8 @@ fn value_of(bits: &[u8]) -> u64
     ensures { result ≡ value_of bits.now }
 {
     let mut number: u64 = 0;
-    let mut i: usize = 0;
-    while i < bits.len() {
-        number = number * 2 + low_bit(bits[i]);
-        i += 1;
+    for bit in bits {
+        number = number * 2 + low_bit(*bit);
     }
     number
 }
@@ -80,7 +74,7 @@ fn largest(width: usize) -> u64
     requires { (0 < width) × (width ≤ 64) }
     ensures { result ≡ 2 ^ width - 1 }
 {
-    ((1u64 << (width - 1)) - 1) * 2 + 1
+    u64::MAX >> (64 - width)
 }
 
 // -(n + 1)
@@ -104,11 +98,11 @@ fn signed_of(bits: &[u8]) -> i64
     requires { length bits.now ≤ 64 }
     ensures { result ≡ signed_of bits.now }
 {
-    let number = value_of(bits);
-    if bits.len() == 0 {
+    let Some(first) = bits.first() else {
         return 0;
-    }
-    let negative = low_bit(bits[0]) == 1;
+    };
+    let number = value_of(bits);
+    let negative = low_bit(*first) == 1;
     if negative {
         below_zero(largest(bits.len()) - number)
     } else {
@@ -144,31 +138,21 @@ fn holds_number(number: u64, width: usize) -> bool
     ensures { result ≡ ltb number (2 ^ width) }
 {
     let whole = 64 <= width;
-    if whole { true } else { number >> width == 0 }
+    whole || number >> width == 0
 }
 
 // `width` bits hold the number with a sign.
 fn holds_signed(z: i64, width: usize) -> bool
     ensures { result ≡ holds_signed width z }
 {
-    if width < 1 {
-        return false;
-    }
-    if 64 < width {
-        return false;
-    }
-    holds_number(magnitude(z), width - 1)
+    (1..=64).contains(&width) && holds_number(magnitude(z), width - 1)
 }
 
 // `width` bytes from `at` on lie within `count`.
 fn is_inside(count: usize, at: usize, width: usize) -> bool
     ensures { result ≡ leb (at + width) count }
 {
-    if count < at {
-        false
-    } else {
-        width <= count - at
-    }
+    at <= count && width <= count - at
 }
 
 // The number whose bits stand for `z` with a sign.
@@ -188,34 +172,10 @@ fn put_bits(bytes: &mut [u8], at: usize, width: usize, number: u64)
     requires { at + width ≤ length bytes.old }
     ensures { bytes.new ≡ sets bytes.old at (bits_of width number) }
 {
-    let mut left = width;
     let mut rest = number;
-    while 0 < left {
-        left -= 1;
-        bytes[at + left] = (rest % 2) as u8;
-        rest = rest / 2;
-    }
-}
-
-// `width` bits from `at` on lie within `count` bytes and hold the number.
-fn fits_number(count: usize, at: usize, width: usize, number: u64) -> bool
-    ensures { result ≡ (leb (at + width) count && ltb number (2 ^ width)) }
-{
-    if is_inside(count, at, width) {
-        holds_number(number, width)
-    } else {
-        false
-    }
-}
-
-// The same with a sign.
-fn fits_signed(count: usize, at: usize, width: usize, z: i64) -> bool
-    ensures { result ≡ (leb (at + width) count && holds_signed width z) }
-{
-    if is_inside(count, at, width) {
-        holds_signed(z, width)
-    } else {
-        false
+    for place in (at..at + width).rev() {
+        bytes[place] = (rest % 2) as u8;
+        rest /= 2;
     }
 }
 
@@ -223,45 +183,36 @@ fn fits_signed(count: usize, at: usize, width: usize, z: i64) -> bool
 pub fn put_number(bytes: &mut [u8], at: usize, width: usize, number: u64) -> Result<(), Refusal>
     ensures { (result ≡ number_answer bytes.old at width number) × (bytes.new ≡ number_bytes bytes.old at width number) }
 {
-    if fits_number(bytes.len(), at, width, number) {
-        put_bits(bytes, at, width, number);
-        return Ok(());
+    let fits = is_inside(bytes.len(), at, width) && holds_number(number, width);
+    if !fits {
+        return Err(Rule::Length.at(0));
     }
-    Err(Rule::Length.at(0))
+    put_bits(bytes, at, width, number);
+    Ok(())
 }
 
 // The same with a sign.
 pub fn put_signed(bytes: &mut [u8], at: usize, width: usize, number: i64) -> Result<(), Refusal>
     ensures { (result ≡ signed_answer bytes.old at width number) × (bytes.new ≡ signed_bytes bytes.old at width number) }
 {
-    if fits_signed(bytes.len(), at, width, number) {
-        put_bits(bytes, at, width, unsigned_of(number, width));
-        return Ok(());
+    let fits = is_inside(bytes.len(), at, width) && holds_signed(number, width);
+    if !fits {
+        return Err(Rule::Length.at(0));
     }
-    Err(Rule::Length.at(0))
+    put_bits(bytes, at, width, unsigned_of(number, width));
+    Ok(())
 }
 
 // ---- copying
-
-// Copies bytes over as many others.
-fn copy_over(from: &[u8], into: &mut [u8])
-    requires { length from.now ≡ length into.old }
-    ensures { into.new ≡ from.now }
-{
-    let mut i: usize = 0;
-    while i < from.len() {
-        into[i] = from[i];
-        i += 1;
-    }
-}
 
 // Copies bytes over as many others; refused 1 at 0 where they are not as many.
 pub fn copy(from: &[u8], into: &mut [u8]) -> Result<(), Refusal>
     ensures { (result ≡ copy_answer from.now into.old) × (into.new ≡ copy_bytes from.now into.old) }
 {
-    if from.len() == into.len() {
-        copy_over(from, into);
-        return Ok(());
+    let unlike = from.len() != into.len();
+    if unlike {
+        return Err(Rule::Length.at(0));
     }
-    Err(Rule::Length.at(0))
+    into.copy_from_slice(from);
+    Ok(())
 }

@@ -8,12 +8,15 @@ use super::refusal::{Refusal, Rule};
 // x^24 + x^23 + x^18 + x^17 + x^14 + x^11 + x^10 + x^7 + x^6 + x^5 + x^4 + x^3 + x + 1
 const POLYNOMIAL: u32 = 0x1864CFB;
 
+// How many check bits a block ends with.
+const CHECK_BITS: usize = 24;
+
 // The register with one more bit behind it; where that gives x^24, the polynomial is taken away.
 fn feed(register: u32, bit: u8) -> u32
     requires { register < 2 ^ 24 }
     ensures { result ≡ fed register bit }
 {
-    let longer = register * 2 + (bit % 2) as u32;
+    let longer = register * 2 + u32::from(bit % 2);
     if longer < 0x1000000 {
         longer
     } else {
@@ -26,10 +29,8 @@ pub fn remainder(bits: &[u8]) -> u32
     ensures { result ≡ remainder_of bits.now }
 {
     let mut register: u32 = 0;
-    let mut i: usize = 0;
-    while i < bits.len() {
-        register = feed(register, bits[i]);
-        i += 1;
+    for bit in bits {
+        register = feed(register, *bit);
     }
     register
 }
@@ -39,10 +40,8 @@ pub fn check_bits(bits: &[u8]) -> u32
     ensures { result ≡ check_of bits.now }
 {
     let mut register = remainder(bits);
-    let mut k: usize = 0;
-    while k < 24 {
+    for _ in 0..CHECK_BITS {
         register = feed(register, 0);
-        k += 1;
     }
     register
 }
@@ -51,12 +50,12 @@ pub fn check_bits(bits: &[u8]) -> u32
 pub fn put_check(block: &mut [u8]) -> Result<(), Refusal>
     ensures { (result ≡ check_answer block.old) × (block.new ≡ check_bytes block.old) }
 {
-    if block.len() < 24 {
+    if block.len() < CHECK_BITS {
         return Err(Rule::Length.at(0));
     }
-    let count = block.len() - 24;
-    let check = check_bits(&block[..count]) as u64;
-    put_number(block, count, 24, check)
+    let count = block.len() - CHECK_BITS;
+    let check = u64::from(check_bits(&block[..count]));
+    put_number(block, count, CHECK_BITS, check)
 }
 
 // A block of data and check bits is right.

@@ -3,14 +3,14 @@ ghost use Rattle.std.specs.Prelude.{◌≡◌, ◌^◌, ◌<◌, length};
 ghost use Rattle.words.specs.Bits.{bits_of};
 ghost use Rattle.words.specs.Time.{one_shift, time_word, time_answer, time_bytes, nearest_time, time_read};
 
-use super::bits::{first_not_bit, take_number};
+use super::bits::{judge_bits, take_number};
 use super::refusal::{Refusal, Rule};
 
 // The times are 0 to this one.
 pub const LAST_TOI: u16 = 399;
 
 // What reading a time word gives: the time, and how many of the 52 symbols differ from its word.
-#[derive(Clone, Copy)]
+#[derive(Clone, Copy, PartialEq, Eq)]
 pub struct Time {
     pub toi: u16,
     pub corrected: u32,
@@ -18,19 +18,19 @@ pub struct Time {
 
 // ---- writing
 
-// The register, whose eight bits are the last eight symbols, after one shift.
-fn shift(register: u16) -> u16
-    requires { register < 2 ^ 8 }
-    ensures { (result < 2 ^ 8) × (bits_of 8 result ≡ one_shift (bits_of 8 register)) }
+// The register, whose eight bits are the last eight symbols, after one shift: behind them comes the sum modulo 2 of the ones 1, 4, 5, 6, 7 and
+// 8 places before.
+fn shift(register: u8) -> u8
+    ensures { bits_of 8 result ≡ one_shift (bits_of 8 register) }
 {
     let next = (register
-        + register / 8
-        + register / 16
-        + register / 32
-        + register / 64
-        + register / 128)
-        % 2;
-    register % 128 * 2 + next
+        ^ register >> 3
+        ^ register >> 4
+        ^ register >> 5
+        ^ register >> 6
+        ^ register >> 7)
+        & 1;
+    register << 1 | next
 }
 
 // The word of a time's nine bits.
@@ -38,14 +38,12 @@ fn write_word(out: &mut [u8], toi: u16)
     requires { length out.old ≡ 52 }
     ensures { out.new ≡ time_word toi }
 {
-    let top = toi / 256 % 2;
-    let mut register = toi % 256;
-    out[0] = top as u8;
-    let mut i: usize = 1;
-    while i < 52 {
-        out[i] = ((top + register / 128) % 2) as u8;
+    let top = (toi / 256 % 2) as u8;
+    let mut register = (toi % 256) as u8;
+    out[0] = top;
+    for symbol in &mut out[1..] {
+        *symbol = top ^ register >> 7;
         register = shift(register);
-        i += 1;
     }
 }
 
@@ -67,7 +65,7 @@ pub fn write_time(out: &mut [u8], toi: u16) -> Result<(), Refusal>
 
 // What turns the word of `toi - 1` into that of `toi` is the word of the bits in which the two differ, which are the lowest that is set and
 // those below it: the words of 1, 3, 7 and so on to 511.
-const TURNS: [u64; 9] = [
+static TURNS: [u64; 9] = [
     0x00F3A905B4BE3,
     0x01E7520B697C6,
     0x03CEA416D2F8C,
@@ -84,18 +82,14 @@ fn nearest_time(symbols: u64) -> Result<Time, Refusal>
     requires { symbols < 2 ^ 52 }
     ensures { result ≡ nearest_time 400 0 (bits_of 52 symbols) }
 {
-    let turns = TURNS;
     let mut word: u64 = 0;
-    let mut toi: u16 = 0;
-    while toi < 400 {
-        let corrected = u64::count_ones(symbols ^ word);
+    for toi in 0..=LAST_TOI {
+        let corrected = (symbols ^ word).count_ones();
         let near = corrected <= 9;
         if near {
             return Ok(Time { toi, corrected });
         }
-        toi += 1;
-        let k = u16::trailing_zeros(toi) as usize;
-        word = word ^ turns[k];
+        word ^= TURNS[(toi + 1).trailing_zeros() as usize];
     }
     Err(Rule::Time.at(0))
 }
@@ -107,9 +101,6 @@ pub fn read_time(symbols: &[u8]) -> Result<Time, Refusal>
     if symbols.len() != 52 {
         return Err(Rule::Length.at(0));
     }
-    let place = first_not_bit(symbols);
-    if place != symbols.len() {
-        return Err(Rule::NotABit.at(place));
-    }
+    judge_bits(symbols)?;
     nearest_time(take_number(symbols, 0, 52))
 }

@@ -1,24 +1,28 @@
-// The constants and the function of `words::refusal`.
+// The table and the function of `words::refusal`.
 use show::{expected, refused};
-use words::refusal::{
-    CHECK_2, CHECK_3, EQUATION_2, EQUATION_3, FIELD_2, FIELD_3, LENGTH, LINE, NAME, NAME_AGAIN,
-    NAME_MISSING, NOT_A_BIT, NUMBER, ROOM, TIME, TRAILER, refuse,
-};
+use words::refusal::{Rule, refuse};
 
 // In the order of document 01's table.
 pub(crate) fn numbers() {
     let low = [
-        LENGTH, NOT_A_BIT, TIME, EQUATION_2, CHECK_2, FIELD_2, EQUATION_3, CHECK_3,
+        Rule::Length.number(),
+        Rule::NotABit.number(),
+        Rule::Time.number(),
+        Rule::Equation2.number(),
+        Rule::Check2.number(),
+        Rule::Field2.number(),
+        Rule::Equation3.number(),
+        Rule::Check3.number(),
     ];
     let high = [
-        FIELD_3,
-        TRAILER,
-        LINE,
-        NAME,
-        NAME_AGAIN,
-        NUMBER,
-        NAME_MISSING,
-        ROOM,
+        Rule::Field3.number(),
+        Rule::Trailer.number(),
+        Rule::Line.number(),
+        Rule::Name.number(),
+        Rule::NameAgain.number(),
+        Rule::Number.number(),
+        Rule::NameMissing.number(),
+        Rule::Room.number(),
     ];
     expected(
         b"the first eight numbers are 1 to 8",
@@ -31,10 +35,10 @@ pub(crate) fn numbers() {
 }
 
 pub(crate) fn refusing() {
-    refused(b"refuse(0, 0) is that refusal", refuse(0, 0), 0, 0);
+    refused(b"refuse(0, 0) is that refusal", &refuse::<()>(0, 0), 0, 0);
     refused(
         b"refuse(255, last) is that refusal",
-        refuse(255, usize::MAX),
+        &refuse::<()>(255, usize::MAX),
         255,
         usize::MAX,
     );

@@ -1,35 +1,23 @@
 // The functions of `words::time`.
-use show::{done, expected, is_done, is_refused, refused};
+use show::{done, expected, refused};
 use words::bits::{put_number, take_number};
-use words::time::{Time, no_time, read_time, write_time};
+use words::refusal::refuse;
+use words::time::{Time, read_time, write_time};
 
 // The time read, with the number of symbols corrected.
-fn read(text: &[u8], time: Time, toi: u16, corrected: u32) {
-    let answer = time.answer;
-    expected(
-        text,
-        time.toi == toi && time.corrected == corrected && is_done(answer),
-    );
-}
-
-// A refusal, with zeros beside it.
-fn not_read(text: &[u8], time: Time, number: u8, place: usize) {
-    let answer = time.answer;
-    expected(
-        text,
-        time.toi == 0 && time.corrected == 0 && is_refused(answer, number, place),
-    );
+fn read(text: &[u8], symbols: &[u8], toi: u16, corrected: u32) {
+    expected(text, read_time(symbols) == Ok(Time { toi, corrected }));
 }
 
 // Written over garbage, as a number of 52 bits, and read back with nothing corrected.
 fn word(text: &[u8], toi: u16, symbols: u64) {
     let mut out = [9u8; 52];
-    done(text, write_time(&mut out, toi));
+    done(text, &write_time(&mut out, toi));
     expected(
         b"  and the word is that",
         take_number(&out, 0, 52) == symbols,
     );
-    read(b"  and it is read back with 0", read_time(&out), toi, 0);
+    read(b"  and it is read back with 0", &out, toi, 0);
 }
 
 pub(crate) fn known() {
@@ -49,20 +37,19 @@ pub(crate) fn known() {
 
 pub(crate) fn writing() {
     let mut out = [3u8; 52];
-    let before = [3u8; 52];
     refused(
         b"write_time of 400 is refused 3 at 0",
-        write_time(&mut out, 400),
+        &write_time(&mut out, 400),
         3,
         0,
     );
     refused(
         b"write_time of 65535 is refused 3 at 0",
-        write_time(&mut out, 65535),
+        &write_time(&mut out, 65535),
         3,
         0,
     );
-    expected(b"  and the bytes stay", out == before);
+    expected(b"  and the bytes stay", out == [3; 52]);
 }
 
 pub(crate) fn writing_elsewhere() {
@@ -70,19 +57,19 @@ pub(crate) fn writing_elsewhere() {
     let mut long = [3u8; 53];
     refused(
         b"write_time of 400 into 51 is refused 1 at 0",
-        write_time(&mut short, 400),
+        &write_time(&mut short, 400),
         1,
         0,
     );
     refused(
         b"write_time into 53 is refused 1 at 0",
-        write_time(&mut long, 0),
+        &write_time(&mut long, 0),
         1,
         0,
     );
     refused(
         b"write_time into nothing is refused 1 at 0",
-        write_time(&mut short[0..0], 0),
+        &write_time(&mut short[0..0], 0),
         1,
         0,
     );
@@ -91,34 +78,34 @@ pub(crate) fn writing_elsewhere() {
 pub(crate) fn reading() {
     let garbage = [255u8; 60];
     let mut symbols = [0u8; 52];
-    not_read(
+    refused(
         b"nothing is refused 1 at 0",
-        read_time(&garbage[0..0]),
+        &read_time(&garbage[0..0]),
         1,
         0,
     );
-    not_read(
+    refused(
         b"51 symbols are refused 1 at 0",
-        read_time(&garbage[0..51]),
+        &read_time(&garbage[0..51]),
         1,
         0,
     );
-    not_read(
+    refused(
         b"53 symbols are refused 1 at 0",
-        read_time(&garbage[0..53]),
+        &read_time(&garbage[0..53]),
         1,
         0,
     );
-    not_read(
+    refused(
         b"garbage is refused 2 at 0",
-        read_time(&garbage[0..52]),
+        &read_time(&garbage[0..52]),
         2,
         0,
     );
     symbols[51] = 2;
-    not_read(
+    refused(
         b"a last byte 2 is refused 2 at 51",
-        read_time(&symbols),
+        &read_time(&symbols),
         2,
         51,
     );
@@ -129,28 +116,23 @@ pub(crate) fn turned() {
     let mut symbols = [0u8; 52];
     done(
         b"put_number of nine ones in front is done",
-        put_number(&mut symbols, 0, 9, 511),
+        &put_number(&mut symbols, 0, 9, 511),
     );
-    read(
-        b"nine turned are read as 0 with 9",
-        read_time(&symbols),
-        0,
-        9,
-    );
+    read(b"nine turned are read as 0 with 9", &symbols, 0, 9);
     symbols[9] = 1;
-    not_read(b"ten turned are refused 3 at 0", read_time(&symbols), 3, 0);
+    refused(b"ten turned are refused 3 at 0", &read_time(&symbols), 3, 0);
 }
 
 pub(crate) fn no_times() {
-    not_read(
+    refused(
         b"no_time(0, 0) is that refusal, with zeros",
-        no_time(0, 0),
+        &refuse::<Time>(0, 0),
         0,
         0,
     );
-    not_read(
+    refused(
         b"no_time(255, last) is that refusal, with zeros",
-        no_time(255, usize::MAX),
+        &refuse::<Time>(255, usize::MAX),
         255,
         usize::MAX,
     );

@@ -1,25 +1,29 @@
--- What the turns of the loops keep, and the parts that are lent.
+-- What the turns of the loops keep, and what the library says of a slice, said of bits.
 -- Assumes nothing.
-use mathlib.Core.Path.{◌≡◌, refl, sym, ap, ap₂, ◌∙◌}
+use mathlib.Core.Path.{◌≡◌, refl, sym, ap, ◌∙◌}
 use mathlib.Core.Bool.{Bool, true, false, cond}
 use mathlib.Core.List.{List, [], ◌∷◌, ◌++◌}
-use Prim.Native.Nat.{ℕ, zero, suc, ◌+◌, ◌-◌, ◌*◌, ◌/◌, ◌%◌, ◌^◌, ◌≤◌, ◌<◌, min}
-use native.Mathlib.Nat.{zero-min, min-zero, suc-min-suc, lt_of_lt_of_le, add-zero}
+use Prim.Native.Nat.{ℕ, zero, suc, ◌+◌, ◌-◌, ◌*◌, ◌/◌, ◌%◌, ◌^◌, ◌≤◌, ◌<◌}
+use native.Mathlib.Nat.{lt_of_lt_of_le, add-zero, suc-mul}
 use native.Mathlib.Numerals.{add-one}
 use native.Mathlib.Omega.{arith}
 use lib.Bits.{bit_or, or_lt, or_add_and, and_le_l, and_le_r}
-use lib.Dec.{lit<, eqb, leb}
-use lib.IntN.{ℤ, pos, negsuc}
-use lib.ListN.{length, get_or, take, drop, set, drop_of_length-le, length-drop, length-take}
-use lib.Pow.{pow_mono}
-use lib.Seq.{drop-cons, take_all, take-suc, take-suc-set, sets, set_comm}
-use lib.Signed.{mag, lt_z}
-use mir.Syntax.{w64}
-use mir.Val.{SFits, to_z, of_z}
-use mir.ValLaws.{to_z-of_z}
-use borrow.Author.Tests.{lt-ltb, le-ltb, ltb-true, leb-true, leb-false, eq-eqb, ne_eqb}
-use Rattle.words.specs.Bits.{first_not_bit, value_of, bits_of, signed_of, bits_at}
-use Rattle.words.specs.Laws.Digits.{value_snoc, length_bits, bits_snoc}
+use lib.Dec.{lit<, eqb, leb, ltb}
+use lib.IntN.{pos}
+use lib.ListN.{length, get_or, take, drop, set, drop_of_length-le}
+use lib.Pow.{pow_mono, pow_pos, high}
+use lib.Seq.{drop-cons, take-suc, sets, set_comm}
+use lib.Signed.{mag}
+use borrow.Author.Tests.{lt-ltb, le-ltb, leb-true, leb-false, eq-eqb, ne_eqb}
+use Rattle.std.proofs.lemmas.Bool.Decides.{nat_tests}
+use Rattle.std.proofs.lemmas.List.Recursion.{is_position_or_len}
+use Rattle.std.proofs.lemmas.Nat.{pow-add}
+use Rattle.std.proofs.lemmas.Option.{get_or_from_slice_get}
+use Rattle.std.specs.List.{position, position_or_len, slice_get}
+use Rattle.std.specs.Option.{unwrap_or}
+use Rattle.std.specs.declared.option.Option.TheVariants.{None, Some}
+use Rattle.words.specs.Bits.{first_not_bit, value_of, bits_of, signed_of}
+use Rattle.words.specs.Laws.Digits.{value_snoc, length_bits, bits_snoc, not_bit_le}
 use Rattle.words.specs.Laws.Signs.{signed_mag}
 
 -- ---- the first byte that is no bit, from a place on
@@ -43,6 +47,20 @@ no_bit_here l i h b =
 pub no_more : (l : List ℕ) (i : ℕ) → length l ≤ i → i + first_not_bit (drop i l) ≡ i
 unfolding first_not_bit
 no_more l i h = ap (λ (x : List ℕ). i + first_not_bit x) (drop_of_length-le l h) ∙ omega arith
+
+-- as `position` finds it
+
+first_is : (l : List ℕ) → first_not_bit l ≡ position_or_len (ltb 1) l
+unfolding first_not_bit
+first_is l = is_position_or_len first_not_bit (ltb 1) refl (λ x xs. grind (arith, nat_tests)) l
+
+found_by : (n m : ℕ) → n ≤ m → n ≡ unwrap_or (cond (ltb n m) (Some n) None) m
+found_by n m h = grind (arith, nat_tests)
+
+pub first_position : (l : List ℕ) → unwrap_or (position (ltb 1) l) (length l) ≡ first_not_bit l
+first_position l =
+    let e = first_is l in
+    sym (e ∙ found_by (position_or_len (ltb 1) l) (length l) (omega (arith, not_bit_le l)))
 
 -- ---- all bytes together, one laid over the other
 
@@ -84,29 +102,20 @@ pub value_more : (l : List ℕ) (i : ℕ) → i < length l → value_of (take (i
 value_more l i h =
     ap (λ (k : ℕ). value_of (take k l)) (add-one i) ∙ ap value_of (take-suc l i 0 h) ∙ value_snoc (take i l) (get_or l i 0)
 
--- ---- a part that ends with the list
+-- ---- the largest number of some bits
 
-take_least : (n : ℕ) (l : List ℕ) → take (min n (length l)) l ≡ take n l
-take_least zero l = ap (λ (k : ℕ). take k l) (zero-min (length l))
-take_least (suc n) [] = ap (λ (k : ℕ). take k []) (min-zero (suc n))
-take_least (suc n) (x ∷ l) =
-    ap (λ (k : ℕ). take k (x ∷ l)) (suc-min-suc n (length l)) ∙ ap (λ (r : List ℕ). x ∷ r) (take_least n l)
+pub all_ones : (w : ℕ) → w ≤ 64 → 18446744073709551615 / 2 ^ (64 - w) ≡ 2 ^ w - 1
+all_ones w h = ap (λ (n : ℕ). n / 2 ^ (64 - w)) whole ∙ high (2 ^ w - 1) (64 - w) (omega (arith, pow_pos (64 - w)))
+  where
+    product : 2 ^ w * 2 ^ (64 - w) ≡ 2 ^ 64
+    product = sym (pow-add 2 w (64 - w)) ∙ (let e : w + (64 - w) ≡ 64 = omega arith in ap (λ (k : ℕ). 2 ^ k) e)
 
-drop_least : (n : ℕ) (l : List ℕ) → drop (min n (length l)) l ≡ drop n l
-drop_least zero l = ap (λ (k : ℕ). drop k l) (zero-min (length l))
-drop_least (suc n) [] = ap (λ (k : ℕ). drop k []) (min-zero (suc n))
-drop_least (suc n) (x ∷ l) = ap (λ (k : ℕ). drop k (x ∷ l)) (suc-min-suc n (length l)) ∙ drop_least n l
+    less : (p q : ℕ) → 0 < p → p * q ≡ (p - 1) * q + q
+    less zero q h = absurd (omega arith)
+    less (suc p) q h = suc-mul p q ∙ (let e : p ≡ suc p - 1 = omega arith in ap (λ (k : ℕ). k * q + q) e)
 
-pub part_is : (l : List ℕ) (at w from count : ℕ) → from ≡ min at (length l) → count ≡ min (min w 64) (length l - from)
-    → take (from + count - from) (drop from l) ≡ bits_at l at w
-part_is l at w from count e f =
-    let cancel : from + count - from ≡ count = omega arith in
-    let same : drop from l ≡ drop at l = ap (λ (k : ℕ). drop k l) e ∙ drop_least at l in
-    let rest : length l - from ≡ length (drop at l) = sym (length-drop from l) ∙ ap length same in
-    ap₂ take (cancel ∙ f ∙ ap (min (min w 64)) rest) same ∙ take_least (min w 64) (drop at l)
-
-pub length_part : (l : List ℕ) (at w : ℕ) → length (bits_at l at w) ≤ 64
-length_part l at w = omega (arith, length-take (min w 64) (drop at l))
+    whole : 18446744073709551615 ≡ (2 ^ w - 1) * 2 ^ (64 - w) + (2 ^ (64 - w) - 1)
+    whole = omega (arith, product, less (2 ^ w) (2 ^ (64 - w)) (pow_pos w), pow_pos (64 - w))
 
 -- ---- a number with a sign of at most 64 bits
 
@@ -115,24 +124,14 @@ unfolding signed_of value_of
 signed_fits [] h = lit< tt
 signed_fits (b ∷ l) h = lt_of_lt_of_le (signed_mag b l) (pow_mono {i = length l} {j = 63} (omega arith))
 
-pub signed_none : (l : List ℕ) → length l ≡ 0 → pos 0 ≡ signed_of l
+-- the first bit, as `first` gives it
+pub first_bit : (l : List ℕ) (b : ℕ) → Some b ≡ slice_get l 0 → get_or l 0 0 % 2 ≡ b % 2
+first_bit l b e = ap (λ (x : ℕ). x % 2) (get_or_from_slice_get l 0 b 0 (sym e))
+
+pub signed_none : (l : List ℕ) → None ≡ slice_get l 0 → pos 0 ≡ signed_of l
 unfolding signed_of value_of
 signed_none [] e = refl
-signed_none (b ∷ l) e = absurd (omega arith)
-
--- ---- tests of machine numbers with a sign
-
--- a test as a branch leaves it, said of the number
-pub tested : (z y : ℤ) (t : Bool) → SFits w64 z → lt_z (to_z w64 (of_z w64 z)) y ≡ t → lt_z z y ≡ t
-tested z y t f e = sym (ap (λ (x : ℤ). lt_z x y) (to_z-of_z w64 z f)) ∙ e
-
-pub below_zero_is : (z : ℤ) → lt_z z (pos 0) ≡ true → z ≡ negsuc (mag z)
-below_zero_is (pos n) t = absurd (omega (arith, ltb-true n 0 t))
-below_zero_is (negsuc n) t = refl
-
-pub not_below_zero_is : (z : ℤ) → lt_z z (pos 0) ≡ false → z ≡ pos (mag z)
-not_below_zero_is (pos n) t = refl
-not_below_zero_is (negsuc n) t = absurd (let z : ◌≡◌ {A = ℕ} 0 1 = cc in omega arith)
+signed_none (b ∷ l) e = absurd (let z : None ≡ Some b = e in let y : ◌≡◌ {A = ℕ} 0 1 = cc in omega arith)
 
 -- ---- one more bit put, the lowest first
 
@@ -145,32 +144,17 @@ sets_snoc l i (a ∷ bits) b =
     ∙ ap (λ (k : ℕ). set (set l k b) i a) (let e : suc i + length bits ≡ i + suc (length bits) = omega arith in e))
 
 -- as a loop that counts down has it
-pub bits_left : (l : List ℕ) (at w n : ℕ) → 0 < w
-    → sets (set l (at + (w - 1)) (n % 2)) at (bits_of (w - 1) (n / 2)) ≡ sets l at (bits_of w n)
-bits_left l at w n h =
-    let less : suc (w - 1) ≡ w = omega arith in
-    ap (λ (k : ℕ). sets (set l (at + k) (n % 2)) at (bits_of (w - 1) (n / 2))) (sym (length_bits (w - 1) (n / 2)))
-    ∙ sym (sets_snoc l at (bits_of (w - 1) (n / 2)) (n % 2))
-    ∙ ap (sets l at) (sym (bits_snoc (w - 1) n) ∙ ap (λ (k : ℕ). bits_of k n) less)
+pub bits_left : (l : List ℕ) (at place n : ℕ) → at < place
+    → sets (set l (place - 1) (n % 2)) at (bits_of (place - 1 - at) (n / 2)) ≡ sets l at (bits_of (place - at) n)
+bits_left l at place n h =
+    let rest = bits_of (place - 1 - at) (n / 2) in
+    let end : place - 1 ≡ at + length rest = omega (arith, length_bits (place - 1 - at) (n / 2)) in
+    let one : suc (place - 1 - at) ≡ place - at = omega arith in
+    ap (λ (k : ℕ). sets (set l k (n % 2)) at rest) end
+    ∙ sym (ap (λ (k : ℕ). sets l at (bits_of k n)) (sym one) ∙ ap (sets l at) (bits_snoc (place - 1 - at) n)
+    ∙ sets_snoc l at rest (n % 2))
 
 pub none_left : (l : List ℕ) (at w n : ℕ) → w ≤ 0 → sets l at (bits_of w n) ≡ l
 unfolding bits_of
 none_left l at zero n h = refl
 none_left l at (suc w) n h = absurd (omega arith)
-
--- ---- bytes copied one after another
-
-pub none_taken : (a b : List ℕ) → take 0 a ≡ take 0 b
-none_taken [] [] = refl
-none_taken [] (y ∷ b) = refl
-none_taken (x ∷ a) [] = refl
-none_taken (x ∷ a) (y ∷ b) = refl
-
-pub one_more : (from into : List ℕ) (i : ℕ) → i < length into → i < length from → take i into ≡ take i from
-    → take (i + 1) (set into i (get_or from i 0)) ≡ take (i + 1) from
-one_more from into i h g e =
-    rw (add-one i)
-    (take-suc-set into i (get_or from i 0) h ∙ ap (λ (l : List ℕ). l ++ (get_or from i 0 ∷ [])) e ∙ sym (take-suc from i 0 g))
-
-pub all_taken : (from into : List ℕ) (i : ℕ) → length into ≤ i → length from ≤ i → take i into ≡ take i from → into ≡ from
-all_taken from into i h g e = sym (take_all i into h) ∙ e ∙ take_all i from g

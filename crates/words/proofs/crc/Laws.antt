@@ -23,16 +23,10 @@ pub bit_fed : (l : List ℕ) (i r : ℕ) → i < length l → remainder_from r (
 bit_fed l i r h =
     ap (remainder_from r) (drop-cons l i 0 h) ∙ ap (λ (n : ℕ). remainder_from (fed r (get_or l i 0)) (drop n l)) (sym (add-one i))
 
-pub all_fed : (l : List ℕ) (i r : ℕ) → length l ≤ i → remainder_from r (drop i l) ≡ r
-all_fed l i r h = ap (remainder_from r) (drop_of_length-le l h)
-
 -- ---- zeros still to come
 
 pub zero_fed : (r k : ℕ) → k < 24 → remainder_from r (replicate (24 - k) 0) ≡ remainder_from (fed r 0) (replicate (24 - (k + 1)) 0)
 zero_fed r k h = ap (λ (n : ℕ). remainder_from r (replicate n 0)) (let e : 24 - k ≡ suc (24 - (k + 1)) = omega arith in e)
-
-pub zeros_fed : (r k : ℕ) → 24 ≤ k → remainder_from r (replicate (24 - k) 0) ≡ r
-zeros_fed r k h = ap (λ (n : ℕ). remainder_from r (replicate n 0)) (let e : 24 - k ≡ 0 = omega arith in e)
 
 pub check_is : (l : List ℕ) → remainder_from (remainder_of l) (replicate 24 0) ≡ check_of l
 unfolding check_of

@@ -3,15 +3,16 @@
 use mathlib.Core.Path.{◌≡◌, refl, sym, ap, ap₂, ◌∙◌, subst}
 use mathlib.Core.Bool.{Bool, true, cond, ◌&&◌, and-eq-true_iff}
 use mathlib.Core.List.{List, [], ◌∷◌, ◌++◌, map, append-nil}
-use Prim.Native.Nat.{ℕ, suc, ◌+◌, ◌-◌, ◌*◌, ◌/◌, ◌%◌, ◌^◌, ◌≤◌, ◌<◌}
+use Prim.Native.Nat.{ℕ, zero, suc, ◌+◌, ◌-◌, ◌*◌, ◌/◌, ◌%◌, ◌^◌, ◌≤◌, ◌<◌}
 use native.Mathlib.Nat.{div-one, mod-mod}
 use native.Mathlib.Numerals.{add-one}
 use native.Mathlib.Omega.{arith}
-use lib.Bits.{bit_xor, xor_self, xor_zero_l}
+use lib.Bits.{bit_and, bit_or, bit_xor, xor_self, xor_zero_l}
 use lib.Count.{ones, count_trailing_zeros}
 use lib.Dec.{eqb, ltb}
-use lib.ListN.{length, get_or, take, drop, set}
+use lib.ListN.{length, get_or, take, drop, set, drop_of_length-le, length-drop}
 use lib.Seq.{take-suc-set, append_snoc, take_all}
+use borrow.Rule.Slice.PartMut.{put_mid}
 use borrow.Author.Tests.{le-leb, lt-leb, eqb-true, ltb-true}
 use Rattle.words.specs.Bits.{IsBits, value_of, bits_of, bits_at}
 use Rattle.words.specs.Sums.{add2, sums, differing}
@@ -59,39 +60,71 @@ shift_is r =
     odd : (b : ℕ) → b < 2 → (r % 128 * 2 + b) % 2 ≡ b
     odd b h = omega arith
 
+-- the register's bits as the code has them
+shifted : ℕ → ℕ
+shifted r =
+    bit_or (r * 2 % 256)
+    (bit_and (bit_xor (bit_xor (bit_xor (bit_xor (bit_xor r (r / 8)) (r / 16)) (r / 32)) (r / 64)) (r / 128)) 1)
+
+same_shift : ℕ → Bool
+same_shift r = eqb (shifted r) (r % 128 * 2 + next_of r)
+
+all_same_shift : all_below same_shift 256 ≡ true
+unfolding all_below same_shift shifted
+all_same_shift = refl
+
+pub shifts : (r : ℕ) → r < 256
+    → bits_of 8 (bit_or (r * 2 % 256)
+    (bit_and (bit_xor (bit_xor (bit_xor (bit_xor (bit_xor r (r / 8)) (r / 16)) (r / 32)) (r / 64)) (r / 128)) 1))
+    ≡ one_shift (bits_of 8 r)
+unfolding same_shift shifted
+shifts r h =
+    ap (bits_of 8) (eqb-true (shifted r) (r % 128 * 2 + next_of r) (below_at same_shift 256 all_same_shift r h)) ∙ shift_is r
+
 -- ---- writing
 
-oldest : (top r : ℕ) → (top + r / 128) % 2 ≡ add2 top (symbol_back 8 (bits_of 8 r))
+bit_sum : (a b : ℕ) → a < 2 → b < 2 → bit_xor a b ≡ (a + b) % 2
+bit_sum zero zero h g = refl
+bit_sum zero (suc zero) h g = refl
+bit_sum zero (suc (suc b)) h g = absurd (omega arith)
+bit_sum (suc zero) zero h g = refl
+bit_sum (suc zero) (suc zero) h g = refl
+bit_sum (suc zero) (suc (suc b)) h g = absurd (omega arith)
+bit_sum (suc (suc a)) b h g = absurd (omega arith)
+
+oldest : (top r : ℕ) → top < 2 → r < 256 → bit_xor top (r / 128) ≡ add2 top (symbol_back 8 (bits_of 8 r))
 unfolding bits_of
-oldest top r = omega arith
+oldest top r h g = bit_sum top (r / 128) h (omega arith) ∙ omega arith
 
--- the top bit, and all that is to leave the register
-pub word_begun : (out : List ℕ) (toi : ℕ) → length out ≡ 52
-    → take 1 (set out 0 (top_bit toi)) ++ map (add2 (top_bit toi)) (shifted_out 51 (bits_of 8 (toi % 256))) ≡ time_word toi
-unfolding time_word
-word_begun out toi l =
-    ap₂ (λ (x y : List ℕ). x ++ map (add2 (top_bit toi)) (shifted_out 51 y))
-    (take-suc-set out 0 (top_bit toi) (omega arith)) (bits_mod 8 toi)
-
--- one more symbol
-pub word_more : (out : List ℕ) (top r i next : ℕ) → length out ≡ 52 → i < 52 → bits_of 8 next ≡ one_shift (bits_of 8 r)
-    → take (i + 1) (set out i ((top + r / 128) % 2)) ++ map (add2 top) (shifted_out (52 - (i + 1)) (bits_of 8 next))
-    ≡ take i out ++ map (add2 top) (shifted_out (52 - i) (bits_of 8 r))
+-- one more symbol behind the first
+pub word_more : (symbols : List ℕ) (top r i next : ℕ) → top < 2 → r < 256 → length symbols ≡ 51 → i < 51 → bits_of 8 next ≡ one_shift (bits_of 8 r)
+    → take (i + 1) (set symbols i (bit_xor top (r / 128))) ++ map (add2 top) (shifted_out (51 - (i + 1)) (bits_of 8 next))
+    ≡ take i symbols ++ map (add2 top) (shifted_out (51 - i) (bits_of 8 r))
 unfolding shifted_out
-word_more out top r i next l h e =
-    ap (λ (n : ℕ). take n (set out i ((top + r / 128) % 2)) ++ map (add2 top) (shifted_out (52 - (i + 1)) (bits_of 8 next))) (add-one i)
-    ∙ ap₂ (λ (x y : List ℕ). x ++ map (add2 top) (shifted_out (52 - (i + 1)) y))
-    (take-suc-set out i ((top + r / 128) % 2) (omega arith)) e
-    ∙ append_snoc (take i out) ((top + r / 128) % 2) (map (add2 top) (shifted_out (52 - (i + 1)) (one_shift (bits_of 8 r))))
-    ∙ ap (λ (x : ℕ). take i out ++ x ∷ map (add2 top) (shifted_out (52 - (i + 1)) (one_shift (bits_of 8 r)))) (oldest top r)
-    ∙ ap (λ (n : ℕ). take i out ++ map (add2 top) (shifted_out n (bits_of 8 r))) (let f : suc (52 - (i + 1)) ≡ 52 - i = omega arith in f)
+word_more symbols top r i next small byte l h e =
+    ap (λ (n : ℕ). take n (set symbols i (bit_xor top (r / 128))) ++ map (add2 top) (shifted_out (51 - (i + 1)) (bits_of 8 next))) (add-one i)
+    ∙ ap₂ (λ (x y : List ℕ). x ++ map (add2 top) (shifted_out (51 - (i + 1)) y))
+    (take-suc-set symbols i (bit_xor top (r / 128)) (omega arith)) e
+    ∙ append_snoc (take i symbols) (bit_xor top (r / 128)) (map (add2 top) (shifted_out (51 - (i + 1)) (one_shift (bits_of 8 r))))
+    ∙ ap (λ (x : ℕ). take i symbols ++ x ∷ map (add2 top) (shifted_out (51 - (i + 1)) (one_shift (bits_of 8 r)))) (oldest top r small byte)
+    ∙ ap (λ (n : ℕ). take i symbols ++ map (add2 top) (shifted_out n (bits_of 8 r))) (let f : suc (51 - (i + 1)) ≡ 51 - i = omega arith in f)
 
-pub word_done : (out w : List ℕ) (top r i : ℕ) → length out ≡ 52 → 52 ≤ i
-    → take i out ++ map (add2 top) (shifted_out (52 - i) (bits_of 8 r)) ≡ w → out ≡ w
-unfolding shifted_out
-word_done out w top r i l h e =
-    sym (ap (λ (n : ℕ). take i out ++ map (add2 top) (shifted_out n (bits_of 8 r))) (let f : 52 - i ≡ 0 = omega arith in f)
-    ∙ append-nil (take i out) ∙ take_all i out (omega arith)) ∙ e
+-- what was written in the place of all but the first
+put_behind : (l rest : List ℕ) (k : ℕ) → length l ≤ 1 + k → put_mid 1 k l rest ≡ take 1 l ++ rest
+put_behind l rest k h =
+    ap (λ (x : List ℕ). take 1 l ++ (rest ++ x)) (drop_of_length-le (drop 1 l) {i = k} (omega (arith, length-drop 1 l)))
+    ∙ ap (λ (x : List ℕ). take 1 l ++ x) (append-nil rest)
+
+pub word_done : (out symbols : List ℕ) (toi r i k : ℕ) → length out ≡ 52 → length (set out 0 (top_bit toi)) ≤ 1 + k → length symbols ≡ 51 → 51 ≤ i
+    → take i symbols ++ map (add2 (top_bit toi)) (shifted_out (51 - i) (bits_of 8 r)) ≡ map (add2 (top_bit toi)) (shifted_out 51 (bits_of 8 (toi % 256)))
+    → put_mid 1 k (set out 0 (top_bit toi)) symbols ≡ time_word toi
+unfolding shifted_out time_word
+word_done out symbols toi r i k l n m h e =
+    put_behind (set out 0 (top_bit toi)) symbols k n
+    ∙ ap₂ (λ (x y : List ℕ). x ++ y) (take-suc-set out 0 (top_bit toi) (omega arith))
+    (sym (ap (λ (n : ℕ). take i symbols ++ map (add2 (top_bit toi)) (shifted_out n (bits_of 8 r))) (let f : 51 - i ≡ 0 = omega arith in f)
+    ∙ append-nil (take i symbols) ∙ take_all i symbols (omega arith)) ∙ e
+    ∙ ap (λ (x : List ℕ). map (add2 (top_bit toi)) (shifted_out 51 x)) (bits_mod 8 toi))
 
 -- ---- packed words
 
@@ -185,10 +218,9 @@ right_at t h =
     )
 
 -- as the code has it
-pub turn_at : (t : ℕ) → 0 < t → t < 512
-    → (count_trailing_zeros 16 t < 9) × (get_or turns (count_trailing_zeros 16 t) 0 ≡ value_of (time_word (bit_xor (t - 1) t)))
-turn_at t p h =
-    let e : suc (t - 1) ≡ t = omega arith in
+pub turn_at : (t : ℕ) → t < 511
+    → (count_trailing_zeros 16 (t + 1) < 9) × (get_or turns (count_trailing_zeros 16 (t + 1)) 0 ≡ value_of (time_word (bit_xor t (t + 1))))
+turn_at t h =
     subst
-    (λ (x : ℕ). (count_trailing_zeros 16 x < 9) × (get_or turns (count_trailing_zeros 16 x) 0 ≡ value_of (time_word (bit_xor (t - 1) x))))
-    e (right_at (t - 1) (omega arith))
+    (λ (x : ℕ). (count_trailing_zeros 16 x < 9) × (get_or turns (count_trailing_zeros 16 x) 0 ≡ value_of (time_word (bit_xor t x))))
+    (sym (add-one t)) (right_at t h)

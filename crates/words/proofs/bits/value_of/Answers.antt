@@ -10,13 +10,13 @@ use Rattle.words.specs.Bits.{value_of}
 use Rattle.words.proofs.bits.Laws.{value_more}
 use Rattle.words.proofs.bits.value_of.Goals as goal
 
-pub loop-i-init : goal.loop-i-init
+pub loop-bit-init : goal.loop-bit-init
 unfolding value_of
-loop-i-init c = (omega arith, refl, omega arith)
+loop-bit-init c = (omega arith, refl, omega arith)
 
-pub loop-i-preserved : goal.loop-i-preserved
-loop-i-preserved c =
+pub loop-bit-preserved : goal.loop-bit-preserved
+loop-bit-preserved c =
     let l = c.args.bits.now in
-    let loop = c.loop-i in
-    let more : value_of (take (loop.i + 1) l) ≡ value_of (take loop.i l) * 2 + get_or l loop.i 0 % 2 = value_more l loop.i (omega arith) in
+    let loop = c.loop-bit in
+    let more : value_of (take (loop.bit-index + 1) l) ≡ value_of (take loop.bit-index l) * 2 + get_or l loop.bit-index 0 % 2 = value_more l loop.bit-index (omega arith) in
     (omega arith, omega arith, rw (add-one, pow-suc) (omega arith))
