@@ -1,14 +1,11 @@
 -- `words::time::write_word` meets its contract. The invariant: what is written behind the first, and what is still to leave the register, is the
 -- word's rest. Assumes nothing.
-use mathlib.Core.Path.{refl, ◌∙◌}
+use mathlib.Core.Path.{◌∙◌}
 use Prim.Native.Nat.{◌/◌, ◌%◌}
 use native.Mathlib.Omega.{arith}
-use lib.ListN.{length-set, length-take, length-drop}
+use lib.ListN.{length-set}
 use Rattle.words.proofs.time.Laws.{word_more, word_done}
 use Rattle.words.proofs.time.write_word.Goals as goal
-
-pub loop-symbol-init : goal.loop-symbol-init
-loop-symbol-init c = (simp (length-take, length-drop, length-set, c.requires) (omega arith), refl)
 
 pub loop-symbol-preserved : goal.loop-symbol-preserved
 loop-symbol-preserved c =
