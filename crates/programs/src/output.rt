@@ -81,7 +81,7 @@ impl Output {
     }
 }
 
-// `refused N at P` and a newline.
+// `refused N at P` and a newline. In parts and not by `write!`, of whose text no contract speaks.
 pub(crate) fn refusal_output(refusal: Refusal) -> Output
     ensures { result ≡ output_of (refusal_text refusal.number refusal.place) }
 {
