@@ -23,18 +23,25 @@ pub(crate) fn digit(character: u8, base: u8) -> Option<u8> {
 }
 
 // The number and one digit more behind it.
-fn with_digit(number: Option<usize>, character: Option<u8>) -> Option<usize> {
-    let value = digit(character?, 10)?;
-    number?.checked_mul(10)?.checked_add(usize::from(value))
+fn with_digit(number: Option<usize>, character: Option<u8>, base: u8) -> Option<usize> {
+    let value = digit(character?, base)?;
+    number?
+        .checked_mul(usize::from(base))?
+        .checked_add(usize::from(value))
 }
 
-// Reads a number of so many digits and the character that has to stand behind them.
-pub(crate) fn read_number(digits: u8, end: u8) -> Option<usize> {
+// Reads a number of so many digits to this base, 16 at most, and the character that has to stand behind them.
+pub(crate) fn read_digits(digits: u8, base: u8, end: u8) -> Option<usize> {
     let mut number = Some(0);
     for _ in 0..digits {
-        number = with_digit(number, next_character());
+        number = with_digit(number, next_character(), base);
     }
     if is_next(end) { number } else { None }
+}
+
+// The same to the base 10.
+pub(crate) fn read_number(digits: u8, end: u8) -> Option<usize> {
+    read_digits(digits, 10, end)
 }
 
 // The same of a number of three digits that is a byte.
@@ -50,7 +57,7 @@ pub(crate) fn read_rest(first: u8, end: u8) -> Option<usize> {
         if character == Some(end) {
             break;
         }
-        number = with_digit(number, character);
+        number = with_digit(number, character, 10);
         character = next_character();
     }
     if character == Some(end) { number } else { None }

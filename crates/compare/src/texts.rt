@@ -43,11 +43,9 @@ fn read_part(base: &[u8]) -> Option<&[u8]> {
 
 // As many of the bytes as there is room for; none where it is not for all.
 fn with_bytes(text: &mut [u8], at: usize, bytes: &[u8]) -> Option<usize> {
-    if at > text.len() {
-        return None;
-    }
-    copy_first(bytes, &mut text[at..]);
-    if bytes.len() <= text.len() - at {
+    let room = text.get_mut(at..)?;
+    copy_first(bytes, room);
+    if bytes.len() <= room.len() {
         Some(at + bytes.len())
     } else {
         None
