@@ -17,14 +17,14 @@ struct Terms {
     af2: u64,
 }
 
-const NO_COUNTS: ClockCounts = ClockCounts {
+const ZERO_COUNTS: ClockCounts = ClockCounts {
     af0: 0,
     af1: 0,
     af2: 0,
 };
 
 // The bits of plus zeros.
-const NO_TERMS: Terms = Terms {
+const ZERO_TERMS: Terms = Terms {
     af0: 0,
     af1: 0,
     af2: 0,
@@ -112,11 +112,11 @@ pub(crate) fn clock_taken_agrees() -> bool {
 }
 
 fn handing_agrees(counts: ClockCounts, terms: Terms, told: Told) -> bool {
-    let handed = clock_of(counts.af0, counts.af1, counts.af2).map(|clock| terms_of(clock));
-    told_or_zeros(told, Some(terms), Some(NO_TERMS)) == Some(handed)
+    let handed = clock_of(counts.af0, counts.af1, counts.af2).map(terms_of);
+    told_or_zeros(told, Some(terms), Some(ZERO_TERMS)) == Some(handed)
 }
 
 fn taking_agrees(terms: Terms, counts: ClockCounts, told: Told) -> bool {
     let taken = counts_of(clock_with(terms));
-    told_or_zeros(told, counts, NO_COUNTS) == Some(taken)
+    told_or_zeros(told, counts, ZERO_COUNTS) == Some(taken)
 }

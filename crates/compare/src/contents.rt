@@ -26,7 +26,7 @@ impl Contents {
     // such.
     pub(crate) fn read(&mut self) -> bool {
         let are_counts = read_counts(&mut self.counts);
-        let are_bits = read_bits(&mut self.page, 2, b' ');
+        let are_bits = read_bits(&mut self.page, 3, b' ');
         are_counts && are_bits
     }
 }

@@ -43,7 +43,7 @@ impl Record {
         self.kind = read_kind();
         let used = used_of(self.kind);
         let are_counts = read_counts(&mut self.counts[..used.counts]);
-        let are_bits = read_bits(&mut self.bits[..used.bits], 1, end);
+        let are_bits = read_bits(&mut self.bits[..used.bits], 2, end);
         match (prn, number) {
             (Some(prn), Some(number)) => {
                 self.prn = prn;
