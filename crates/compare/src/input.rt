@@ -12,7 +12,8 @@ pub(crate) fn is_next(character: u8) -> bool {
     next_character() == Some(character)
 }
 
-// The value of a digit to this base, 16 at most; none where it is no such digit.
+// The value of a digit to this base, 16 at most; none where it is no such digit. `to_digit` takes capital letters too, which the second
+// program does not write.
 pub(crate) fn digit(character: u8, base: u8) -> Option<u8> {
     let value = match character {
         b'0'..=b'9' => character - b'0',
