@@ -5,38 +5,34 @@ use super::input::{digit, next_character, read_number};
 // More pieces than any text has.
 const MOST_PIECES: usize = 10000;
 
-// A text that is put together in bytes that are lent, and its length so far; none once a piece is none, or has no room.
+// A text that is put together in bytes that are lent, of bytes and of parts of the base text; and its length so far, none once a piece is
+// none, or has no room.
 #[derive(Drop)]
 struct Text<'a> {
+    base: &'a [u8],
     bytes: &'a mut [u8],
     length: Option<usize>,
 }
 
 impl<'a> Text<'a> {
-    // Adds what begins with this character: a part of the base text, or a byte.
-    fn add_piece(&mut self, base: &[u8], character: Option<u8>) {
+    // The length with what begins with this character: a part of the base text, or a byte.
+    fn with_piece(&mut self, character: Option<u8>) -> Option<usize> {
         if character == Some(b'@') {
-            self.add(read_part(base));
+            let part = read_part(self.base)?;
+            self.with_bytes(part)
         } else {
-            match character.and_then(byte_of) {
-                Some(byte) => self.add(Some(&[byte])),
-                None => self.add(None),
-            }
+            let byte = byte_of(character?)?;
+            self.with_bytes(&[byte])
         }
     }
 
-    fn add(&mut self, piece: Option<&[u8]>) {
-        self.length = self.with(piece);
-    }
-
-    // As many bytes of the piece as there is room for; none where it is not for all.
-    fn with(&mut self, piece: Option<&[u8]>) -> Option<usize> {
+    // Puts as many bytes behind it as there is room for; none where it is not for all.
+    fn with_bytes(&mut self, bytes: &[u8]) -> Option<usize> {
         let length = self.length?;
-        let piece = piece?;
         let room = self.bytes.get_mut(length..)?;
-        copy_first(piece, room);
-        if piece.len() <= room.len() {
-            Some(length + piece.len())
+        copy_first(bytes, room);
+        if bytes.len() <= room.len() {
+            Some(length + bytes.len())
         } else {
             None
         }
@@ -46,6 +42,7 @@ impl<'a> Text<'a> {
 // Reads a text up to the character that has to end it, and gives its length; none where it is no text, or there is no room for it.
 pub(crate) fn read_text(base: &[u8], text: &mut [u8], end: u8) -> Option<usize> {
     let mut read = Text {
+        base,
         bytes: text,
         length: Some(0),
     };
@@ -54,7 +51,7 @@ pub(crate) fn read_text(base: &[u8], text: &mut [u8], end: u8) -> Option<usize> 
         if character == Some(end) {
             break;
         }
-        read.add_piece(base, character);
+        read.length = read.with_piece(character);
         character = next_character();
     }
     if character == Some(end) {

@@ -64,8 +64,8 @@ fn read_step(end: u8) -> ToldStep {
 
 fn step_agrees(bytes: &[u8], from: usize, expected: &ToldStep) -> bool {
     let mut walk = Walk { bytes, place: from };
-    walk.next();
-    told_step(walk_back(bytes, from), walk.place) == *expected
+    let step = walk.next();
+    step == walk_back(bytes, from) && told_step(step, walk.place) == *expected
 }
 
 // How a step is told, and the place where the walk goes on. Zeros are told where no sheet is read.
