@@ -1,6 +1,9 @@
 // Reading the input, whose lines second/cases.c describes. What is read is judged when all of it is read, so that where it ends does not
 // hang on what it says.
 
+// As many as any number that fits has.
+const MOST_DIGITS: u8 = 20;
+
 // The next character; none where the input is at its end.
 pub(crate) fn next_character() -> Option<u8> {
     let mut text = [0u8; 1];
@@ -50,11 +53,11 @@ pub(crate) fn read_byte(end: u8) -> Option<u8> {
     u8::try_from(read_number(3, end)?).ok()
 }
 
-// Reads the rest of a number of at most 20 digits, whose first is given, and the character that ends it.
+// Reads the rest of a number, whose first digit is given, and the character that ends it.
 pub(crate) fn read_rest(first: u8, end: u8) -> Option<usize> {
     let mut number = Some(0);
     let mut character = Some(first);
-    for _ in 0..20u8 {
+    for _ in 0..MOST_DIGITS {
         if character == Some(end) {
             break;
         }

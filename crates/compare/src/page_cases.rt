@@ -5,6 +5,7 @@ use super::records::Record;
 use super::told::{DONE, Told, read_told};
 use fields::pages::{Page, judge_page, put_page, take_page};
 
+// What stands in a record for the counts that its kind does not use.
 const GARBAGE_COUNT: i64 = i64::MAX;
 
 // ---- taking
