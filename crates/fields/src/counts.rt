@@ -1,12 +1,14 @@
 // Counts taken from bits and put into bits, field by field.
-ghost use Rattle.std.specs.Prelude.{◌≡◌, true, ◌&&◌, ◌++◌, ◌+◌, ◌≤◌, ◌<◌, leb, length, take, drop};
+ghost use Rattle.std.specs.Prelude.{◌≡◌, true, ◌++◌, ◌+◌, ◌≤◌, ◌<◌, length, take, drop};
 ghost use Rattle.std.proofs.lemmas.List.Edits.{sets};
+ghost use Rattle.words.specs.Refusal.{number};
 ghost use Rattle.fields.specs.Table.{fields_in, bit_count, usable};
-ghost use Rattle.fields.specs.Counts.{count_of, counts_in, bits_for, bits_of_counts, in_range, first_out};
+ghost use Rattle.fields.specs.Counts.{count_of, counts_in, bits_for, bits_of_counts, in_range, first_out, out_answer};
 
 use super::rows::fields_of;
 use super::table::{Field, Table};
 use words::bits::{magnitude, put_number, put_signed, take_number, take_signed};
+use words::refusal::{Refusal, Rule};
 
 // The count is in the field's range.
 pub fn in_range(field: Field, count: i64) -> bool
@@ -42,44 +44,46 @@ impl Field {
     }
 }
 
-// The counts of a table's fields, whose bits start at `from`.
-pub(crate) fn read_counts(table: Table, bits: &[u8], from: usize, counts: &mut [i64])
-    requires { (length counts.old ≡ length (fields_in table)) × (from + bit_count (fields_in table) ≤ length bits.now) }
-    ensures { counts.new ≡ counts_in (fields_in table) (drop from bits.now) }
-{
-    let mut at = from;
-    for (k, field) in fields_of(table).iter().enumerate() {
-        counts[k] = field.read(bits, at);
-        at += field.width;
-    }
-}
-
-// The first bit, from 1, of the first field whose count is out of range, or 0; `from` bits stand before the table's.
-pub(crate) fn first_out(table: Table, from: usize, counts: &[i64]) -> usize
-    requires { (length counts.now ≡ length (fields_in table)) × (from ≤ 1000) }
-    ensures { result ≡ first_out from (fields_in table) counts.now }
-{
-    let mut at = from;
-    for (field, count) in fields_of(table).iter().zip(counts) {
-        if !in_range(*field, *count) {
-            return at + 1;
+impl Table {
+    // The counts of the fields, whose bits start at `from`.
+    pub(crate) fn read(self, bits: &[u8], from: usize, counts: &mut [i64])
+        requires { (length counts.old ≡ length (fields_in self)) × (from + bit_count (fields_in self) ≤ length bits.now) }
+        ensures { counts.new ≡ counts_in (fields_in self) (drop from bits.now) }
+    {
+        let mut at = from;
+        for (k, field) in fields_of(self).iter().enumerate() {
+            counts[k] = field.read(bits, at);
+            at += field.width;
         }
-        at += field.width;
     }
-    0
-}
 
-// The bits of counts that are in range, from `from` on; the other bytes stay.
-pub(crate) fn write_counts(table: Table, counts: &[i64], bits: &mut [u8], from: usize)
-    requires { (length counts.now ≡ length (fields_in table)) × ((from + bit_count (fields_in table) ≤ length bits.old)
-        × (first_out from (fields_in table) counts.now ≡ 0)) }
-    ensures { bits.new
-        ≡ take from bits.old ++ (bits_of_counts (fields_in table) counts.now
-        ++ drop (from + bit_count (fields_in table)) bits.old) }
-{
-    let mut at = from;
-    for (field, count) in fields_of(table).iter().zip(counts) {
-        field.write(*count, bits, at);
-        at += field.width;
+    // Refused by the rule at the first bit, from 1, of the first field whose count is out of range; `from` bits stand before the fields.
+    pub(crate) fn judge(self, counts: &[i64], from: usize, rule: Rule) -> Result<(), Refusal>
+        requires { (length counts.now ≡ length (fields_in self)) × (from ≤ 1000) }
+        ensures { result ≡ out_answer (number rule) from (fields_in self) counts.now }
+    {
+        let mut at = from;
+        for (field, count) in fields_of(self).iter().zip(counts) {
+            if !in_range(*field, *count) {
+                return Err(rule.at(at + 1));
+            }
+            at += field.width;
+        }
+        Ok(())
+    }
+
+    // The bits of counts that are in range, from `from` on; the other bytes stay.
+    pub(crate) fn write(self, counts: &[i64], bits: &mut [u8], from: usize)
+        requires { (length counts.now ≡ length (fields_in self)) × ((from + bit_count (fields_in self) ≤ length bits.old)
+            × (first_out from (fields_in self) counts.now ≡ 0)) }
+        ensures { bits.new
+            ≡ take from bits.old ++ (bits_of_counts (fields_in self) counts.now
+            ++ drop (from + bit_count (fields_in self)) bits.old) }
+    {
+        let mut at = from;
+        for (field, count) in fields_of(self).iter().zip(counts) {
+            field.write(*count, bits, at);
+            at += field.width;
+        }
     }
 }

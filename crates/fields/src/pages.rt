@@ -2,12 +2,11 @@
 ghost use Rattle.std.specs.Prelude.{◌≡◌, ◌++◌, ◌+◌, ◌≤◌, ◌<◌, length, drop};
 ghost use Rattle.words.specs.Bits.{bits_of};
 ghost use Rattle.words.specs.Refusal.{Done};
-ghost use Rattle.fields.specs.Table.{fields_in, bit_count};
+ghost use Rattle.fields.specs.Table.{bit_count};
 ghost use Rattle.fields.specs.Pages.{PAGE_BITS, HEAD_BITS, BODY_BITS, PAGE_COUNTS, prn_in, number_in, kind_of, table_of, page_fields, counts_answer3, range_answer, page_answer, record_of, page_taken, is_own, fields_answer3, page_from, used_counts, used_bits, put_page_answer, put_page_bytes};
 
-use super::counts::{first_out, read_counts, write_counts};
 use super::table::{Table, bit_count, field_count};
-use words::bits::{first_not_bit, put_number, take_number};
+use words::bits::{judge_bits, put_number, take_number};
 use words::refusal::{Refusal, Rule};
 
 // The page bits: PRN and page number before the body, and the body.
@@ -119,6 +118,14 @@ impl Kind {
         bit_count(self.table())
     }
 
+    // Refused 9 at the first bit, in the page, of the first field whose count is out of range.
+    fn judge(self, counts: &[i64]) -> Result<(), Refusal>
+        requires { length counts.now ≡ length (page_fields self) }
+        ensures { result ≡ counts_answer3 (page_fields self) counts.now }
+    {
+        self.table().judge(counts, HEAD_BITS, Rule::Field3)
+    }
+
     // The page number is the record's own; pages carried as bits have those up to 63 but 1 and 6.
     fn is_own(self, number: u8) -> bool
         ensures { result ≡ is_own self number }
@@ -153,12 +160,8 @@ fn counts_of(kind: Kind, bits: &[u8]) -> [i64; 30]
     ensures { result ≡ (record_of kind bits.now).counts }
 {
     let mut counts = [0; 30];
-    read_counts(
-        kind.table(),
-        bits,
-        HEAD_BITS,
-        &mut counts[..kind.field_count()],
-    );
+    let used = &mut counts[..kind.field_count()];
+    kind.table().read(bits, HEAD_BITS, used);
     counts
 }
 
@@ -187,18 +190,6 @@ fn record_of(kind: Kind, bits: &[u8]) -> Page
     }
 }
 
-// Refused 9 at the first bit of the first field out of its range.
-fn judge_counts(table: Table, counts: &[i64]) -> Result<(), Refusal>
-    requires { length counts.now ≡ length (fields_in table) }
-    ensures { result ≡ counts_answer3 (fields_in table) counts.now }
-{
-    let out = first_out(table, HEAD_BITS, counts);
-    if out != 0 {
-        return Err(Rule::Field3.at(out));
-    }
-    Ok(())
-}
-
 // Refused 9 at the first bit of the first field of 250 page bits that is out of its range.
 fn judge_fields(bits: &[u8]) -> Result<(), Refusal>
     requires { length bits.now ≡ PAGE_BITS }
@@ -206,7 +197,7 @@ fn judge_fields(bits: &[u8]) -> Result<(), Refusal>
 {
     let kind = kind_of(number_in(bits));
     let counts = counts_of(kind, bits);
-    judge_counts(kind.table(), &counts[..kind.field_count()])
+    kind.judge(&counts[..kind.field_count()])
 }
 
 // Judges 250 page bits: refused 1, 2, then 9 at the first bit of the first field out of its range.
@@ -216,10 +207,7 @@ pub fn judge_page(bits: &[u8]) -> Result<(), Refusal>
     if bits.len() != PAGE_BITS {
         return Err(Rule::Length.at(0));
     }
-    let bad = first_not_bit(bits);
-    if bad != bits.len() {
-        return Err(Rule::NotABit.at(bad));
-    }
+    judge_bits(bits)?;
     judge_fields(bits)
 }
 
@@ -257,7 +245,7 @@ fn judge_record(page: &Page) -> Result<(), Refusal>
     if !page.kind.is_own(page.number) {
         return Err(Rule::Field3.at(NUMBER_BIT));
     }
-    judge_counts(page.kind.table(), page.used_counts())
+    page.kind.judge(page.used_counts())
 }
 
 // PRN and a page number of six bits, before the body.
@@ -275,7 +263,7 @@ fn write_page(page: &Page, bits: &mut [u8])
     ensures { bits.new ≡ page_from page.now.prn page.now.number (page_fields page.now.kind) (used_counts page.now) (used_bits page.now) }
 {
     write_head(page.prn, page.number, bits);
-    write_counts(page.kind.table(), page.used_counts(), bits, HEAD_BITS);
+    page.kind.table().write(page.used_counts(), bits, HEAD_BITS);
     bits[HEAD_BITS + page.kind.bit_count()..].copy_from_slice(page.used_bits());
 }
 
@@ -287,11 +275,7 @@ pub fn put_page(page: Page, bits: &mut [u8]) -> Result<(), Refusal>
     if bits.len() != PAGE_BITS {
         return Err(Rule::Length.at(0));
     }
-    let carried = page.used_bits();
-    let bad = first_not_bit(carried);
-    if bad != carried.len() {
-        return Err(Rule::NotABit.at(bad));
-    }
+    judge_bits(page.used_bits())?;
     judge_record(&page)?;
     write_page(&page, bits);
     Ok(())

@@ -6,9 +6,8 @@ ghost use Rattle.fields.specs.Counts.{counts_in};
 ghost use Rattle.fields.specs.Subframe2.{BITS_2, fields_answer, fields_read, counts_judged, fields_written, fields_bytes};
 ghost use Rattle.fields.specs.declared.table.Table.TheVariants.{Subframe2};
 
-use super::counts::{first_out, read_counts, write_counts};
 use super::table::{Table, bit_count};
-use words::bits::{first_not_bit, put_number, take_number};
+use words::bits::{judge_bits, put_number, take_number};
 use words::refusal::{Refusal, Rule};
 
 // Where each field's count stands among the 33.
@@ -84,8 +83,8 @@ fn judged_fields(bits: &[u8]) -> Result<[i64; 33], Refusal>
     ensures { result ≡ given_by (fields_answer bits.now) (counts_in (fields_in Subframe2) bits.now) }
 {
     let mut counts = [0i64; 33];
-    read_counts(Table::Subframe2, bits, 0, &mut counts);
-    judge_counts(&counts)?;
+    Table::Subframe2.read(bits, 0, &mut counts);
+    Table::Subframe2.judge(&counts, 0, Rule::Field2)?;
     let end = bit_count(Table::Subframe2);
     if take_number(bits, end, 10) != 0 {
         return Err(Rule::Field2.at(end + 1));
@@ -100,10 +99,7 @@ pub fn read_fields(bits: &[u8]) -> Result<[i64; 33], Refusal>
     if bits.len() != 576 {
         return Err(Rule::Length.at(0));
     }
-    let bad = first_not_bit(bits);
-    if bad != bits.len() {
-        return Err(Rule::NotABit.at(bad));
-    }
+    judge_bits(bits)?;
     judged_fields(bits)
 }
 
@@ -115,11 +111,7 @@ pub fn judge_counts(counts: &[i64]) -> Result<(), Refusal>
     if unfit {
         return Err(Rule::Length.at(0));
     }
-    let out = first_out(Table::Subframe2, 0, counts);
-    if out != 0 {
-        return Err(Rule::Field2.at(out));
-    }
-    Ok(())
+    Table::Subframe2.judge(counts, 0, Rule::Field2)
 }
 
 // The bits of 33 counts, into 576 bytes; refused 1, then 6 at the first bit of the first field out of range.
@@ -131,6 +123,6 @@ pub fn write_fields(counts: &[i64], bits: &mut [u8]) -> Result<(), Refusal>
         return Err(Rule::Length.at(0));
     }
     judge_counts(counts)?;
-    write_counts(Table::Subframe2, counts, bits, 0);
+    Table::Subframe2.write(counts, bits, 0);
     put_number(bits, bit_count(Table::Subframe2), 10, 0)
 }

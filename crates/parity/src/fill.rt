@@ -1,51 +1,46 @@
 // The parity symbols of a block.
-ghost use Rattle.std.specs.Prelude.{◌≡◌, ◌∷◌, ◌++◌, ◌+◌, ◌-◌, length, replicate};
-ghost use Rattle.tables.specs.Coordinates.{solved};
+ghost use Rattle.std.specs.Prelude.{◌≡◌, ◌∷◌, ◌+◌, ◌%◌, length};
+ghost use Rattle.tables.specs.Coordinates.{row_sum, solved};
 ghost use Rattle.tables.specs.Matrix.{matrix_of};
-ghost use Rattle.parity.specs.Equations.{data_of};
-ghost use Rattle.parity.specs.Fill.{with_parity, fill_answer, fill_bytes};
+ghost use Rattle.parity.specs.Fill.{p1_from, p2_from, fill_answer, fill_bytes};
 
-use super::equations::{is_block, last_sum};
+use super::equations::is_block;
 use tables::matrix::{Subframe, Submatrix, add, equations, solve};
-use words::bits::first_not_bit;
+use words::bits::judge_bits;
 use words::refusal::{Refusal, Rule};
 
-// Behind the data symbols this p1, and as p2 T⁻¹ times the sums.
-fn put_with(subframe: Subframe, p1: u8, sums: &[u8], block: &mut [u8])
-    requires { (length block.old ≡ (matrix_of subframe).equations + (matrix_of subframe).equations)
-        × (length sums.now ≡ (matrix_of subframe).equations - 1) }
-    ensures { block.new
-        ≡ data_of (matrix_of subframe) block.old ++ p1 ∷ solved (matrix_of subframe).t sums.now }
+// Puts as p2 T⁻¹ times the sums.
+fn put_p2(subframe: Subframe, sums: &[u8], p2: &mut [u8])
+    requires { length p2.old ≡ length sums.now }
+    ensures { p2.new ≡ solved (matrix_of subframe).t sums.now }
 {
-    let n = equations(subframe);
-    block[n] = p1;
-    let p2 = &mut block[n + 1..];
     p2.copy_from_slice(sums);
     solve(subframe, p2);
 }
 
-// The parity behind the data symbols, by sums that start from zero. With a p1 of 0, the sum of the last equation is p1.
-fn put_parity(subframe: Subframe, sums: &mut [u8], block: &mut [u8])
-    requires { (length block.old ≡ (matrix_of subframe).equations + (matrix_of subframe).equations)
-        × (sums.old ≡ replicate ((matrix_of subframe).equations - 1) 0) }
-    ensures { block.new ≡ with_parity (matrix_of subframe) (data_of (matrix_of subframe) block.old) }
+// The sum of the last equation with a p1 of 0, which is p1.
+fn p1_by(subframe: Subframe, symbols: &[u8], p2: &[u8]) -> u8
+    ensures { result ≡ (row_sum (matrix_of subframe).c symbols.now 1 + row_sum (matrix_of subframe).e p2.now 1) % 2 }
 {
-    let n = equations(subframe);
-    add(subframe, Submatrix::A, &block[..n], sums);
-    put_with(subframe, 0, sums, block);
-    let p1 = [last_sum(subframe, block)];
-    add(subframe, Submatrix::B, &p1, sums);
-    put_with(subframe, p1[0], sums, block);
+    let mut sum = [0u8; 1];
+    add(subframe, Submatrix::C, symbols, &mut sum);
+    add(subframe, Submatrix::E, p2, &mut sum);
+    sum[0] % 2
 }
 
-// The same, with sums of its own.
-fn fill(subframe: Subframe, block: &mut [u8])
-    requires { length block.old ≡ (matrix_of subframe).equations + (matrix_of subframe).equations }
-    ensures { block.new ≡ with_parity (matrix_of subframe) (data_of (matrix_of subframe) block.old) }
+// Puts p1 and p2 of the data symbols: p1 by the p2 that goes with a p1 of 0, and then the p2 that goes with p1.
+fn put_parity(subframe: Subframe, symbols: &[u8], parity: &mut [u8])
+    requires { length parity.old ≡ (matrix_of subframe).equations }
+    ensures { parity.new ≡ p1_from (matrix_of subframe) symbols.now ∷ p2_from (matrix_of subframe) symbols.now }
 {
-    let m = equations(subframe) - 1;
-    let mut sums = [0u8; 600];
-    put_parity(subframe, &mut sums[..m], block);
+    let (p1, p2) = parity.split_at_mut(1);
+    let mut room = [0u8; 600];
+    let sums = &mut room[..p2.len()];
+    add(subframe, Submatrix::A, symbols, sums);
+    put_p2(subframe, sums, p2);
+    p1[0] = p1_by(subframe, symbols, p2);
+    add(subframe, Submatrix::B, p1, sums);
+    put_p2(subframe, sums, p2);
 }
 
 // Puts the parity behind the data symbols of a block: 600 of 1200 symbols of subframe 2, or 274 of 548 of subframe 3. Refused 1 at 0 for
@@ -56,11 +51,8 @@ pub fn fill_parity(subframe: Subframe, block: &mut [u8]) -> Result<(), Refusal>
     if !is_block(subframe, block.len()) {
         return Err(Rule::Length.at(0));
     }
-    let n = equations(subframe);
-    let bad = first_not_bit(&block[..n]);
-    if bad != n {
-        return Err(Rule::NotABit.at(bad));
-    }
-    fill(subframe, block);
+    let (data, parity) = block.split_at_mut(equations(subframe));
+    judge_bits(data)?;
+    put_parity(subframe, data, parity);
     Ok(())
 }

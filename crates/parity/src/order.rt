@@ -1,10 +1,10 @@
 // The order of symbols: those of subframe 2, then those of subframe 3, fill rows and leave by columns.
-ghost use Rattle.std.specs.Prelude.{◌≡◌, ◌++◌, ◌+◌, ◌<◌, ◌≤◌, ltb, length, get_or};
+ghost use Rattle.std.specs.Prelude.{◌≡◌, ◌++◌, ◌+◌, ◌<◌, ◌≤◌, eqb, ltb, length, get_or};
 ghost use Rattle.words.specs.Bits.{first_not_bit};
-ghost use Rattle.words.specs.Refusal.{LENGTH, done_if, left_if};
-ghost use Rattle.parity.specs.Order.{SYMBOLS_2, SYMBOLS_3, SYMBOLS, leaves_at, stood_at, symbols_at, interleaved, first_block, second_block, place_in_order, place_before, right_lengths, bits_answer, interleave_answer, interleave_bytes, deinterleave_answer, deinterleave_block2, deinterleave_block3};
+ghost use Rattle.words.specs.Refusal.{LENGTH, NOT_A_BIT, done_if};
+ghost use Rattle.parity.specs.Order.{SYMBOLS, leaves_at, stood_at, symbols_at, interleaved, place_in_order, place_before, right_lengths, interleave_answer, interleave_bytes, deinterleave_answer, deinterleave_block2, deinterleave_block3};
 
-use words::bits::first_not_bit;
+use words::bits::{first_not_bit, judge_bits};
 use words::refusal::{Refusal, Rule};
 
 // The symbols of subframe 2, of subframe 3 and of both, and the rows and columns that they fill.
@@ -39,10 +39,10 @@ fn judge_index(index: usize) -> Result<(), Refusal>
     ensures { result ≡ done_if (ltb index SYMBOLS) LENGTH 0 }
 {
     let is_symbol = index < SYMBOLS;
-    if is_symbol {
-        return Ok(());
+    if !is_symbol {
+        return Err(Rule::Length.at(0));
     }
-    Err(Rule::Length.at(0))
+    Ok(())
 }
 
 // Where the symbol at `index` leaves; refused 1 at 0 past the last symbol.
@@ -63,33 +63,27 @@ pub fn place_before(index: usize) -> Result<usize, Refusal>
 
 // ---- judging
 
-// The blocks of subframe 2 and 3 and the symbols of both have their lengths.
-fn has_lengths(count2: usize, count3: usize, count: usize) -> bool
-    ensures { result ≡ right_lengths count2 count3 count }
+// Refused 1 at 0 unless the blocks of subframe 2 and 3 and the symbols of both have their lengths.
+fn judge_lengths(count2: usize, count3: usize, count: usize) -> Result<(), Refusal>
+    ensures { result ≡ done_if (right_lengths count2 count3 count) LENGTH 0 }
 {
-    count2 == SYMBOLS_2 && count3 == SYMBOLS_3 && count == SYMBOLS
+    let fit = count2 == SYMBOLS_2 && count3 == SYMBOLS_3 && count == SYMBOLS;
+    if !fit {
+        return Err(Rule::Length.at(0));
+    }
+    Ok(())
 }
 
-// Done where the first byte that is no bit is past the last symbol, and else refused 2 there.
-fn bits_answer(place: usize) -> Result<(), Refusal>
-    ensures { result ≡ bits_answer place }
+// Refused 2 at the first byte that is neither 0 nor 1, counted from the `before` others on that stand before these.
+fn judge_bits_behind(before: usize, bytes: &[u8]) -> Result<(), Refusal>
+    requires { before + length bytes.now ≤ SYMBOLS }
+    ensures { result ≡ done_if (eqb (first_not_bit bytes.now) (length bytes.now)) NOT_A_BIT (before + first_not_bit bytes.now) }
 {
-    if place == SYMBOLS {
-        return Ok(());
+    let bad = first_not_bit(bytes);
+    if bad != bytes.len() {
+        return Err(Rule::NotABit.at(before + bad));
     }
-    Err(Rule::NotABit.at(place))
-}
-
-// The index of the first byte that is neither 0 nor 1, counted over the blocks one after another, or the number of bytes.
-fn first_not_bit_of(block2: &[u8], block3: &[u8]) -> usize
-    requires { length block2.now + length block3.now ≤ SYMBOLS }
-    ensures { result ≡ first_not_bit (block2.now ++ block3.now) }
-{
-    let place = first_not_bit(block2);
-    if place != block2.len() {
-        return place;
-    }
-    place + first_not_bit(block3)
+    Ok(())
 }
 
 // ---- into order
@@ -115,29 +109,17 @@ fn put_in_order(block2: &[u8], block3: &[u8], symbols: &mut [u8])
     }
 }
 
-// The same where `good` says so; else nothing is written.
-fn put_if(good: bool, block2: &[u8], block3: &[u8], symbols: &mut [u8])
-    requires { (length block2.now + length block3.now ≡ SYMBOLS) × (length symbols.old ≡ SYMBOLS) }
-    ensures { symbols.new
-        ≡ left_if good (interleaved (block2.now ++ block3.now)) symbols.old }
-{
-    if good {
-        put_in_order(block2, block3, symbols);
-    }
-}
-
 // The symbols of both blocks as they leave; refused 1 at 0 unless the lengths are right, then 2 at the first byte that is no bit,
 // counted over the blocks one after another.
 pub fn interleave(block2: &[u8], block3: &[u8], symbols: &mut [u8]) -> Result<(), Refusal>
     ensures { (result ≡ interleave_answer block2.now block3.now symbols.old)
         × (symbols.new ≡ interleave_bytes block2.now block3.now symbols.old) }
 {
-    if has_lengths(block2.len(), block3.len(), symbols.len()) {
-        let place = first_not_bit_of(block2, block3);
-        put_if(place == SYMBOLS, block2, block3, symbols);
-        return bits_answer(place);
-    }
-    Err(Rule::Length.at(0))
+    judge_lengths(block2.len(), block3.len(), symbols.len())?;
+    judge_bits(block2)?;
+    judge_bits_behind(SYMBOLS_2, block3)?;
+    put_in_order(block2, block3, symbols);
+    Ok(())
 }
 
 // ---- out of order
@@ -152,28 +134,15 @@ fn take_block(symbols: &[u8], from: usize, block: &mut [u8])
     }
 }
 
-// Both blocks where `good` says so; else nothing is written.
-fn take_if(good: bool, symbols: &[u8], block2: &mut [u8], block3: &mut [u8])
-    requires { (length symbols.now ≡ SYMBOLS) × (length block2.old ≡ SYMBOLS_2) × (length block3.old ≡ SYMBOLS_3) }
-    ensures { (block2.new ≡ left_if good (first_block symbols.now) block2.old)
-        × (block3.new ≡ left_if good (second_block symbols.now) block3.old) }
-{
-    if good {
-        take_block(symbols, 0, block2);
-        take_block(symbols, SYMBOLS_2, block3);
-    }
-}
-
 // The blocks of the symbols as they left; refused 1 at 0 unless the lengths are right, then 2 at the first byte that is no bit.
 pub fn deinterleave(symbols: &[u8], block2: &mut [u8], block3: &mut [u8]) -> Result<(), Refusal>
     ensures { (result ≡ deinterleave_answer symbols.now block2.old block3.old)
         × (block2.new ≡ deinterleave_block2 symbols.now block2.old block3.old)
         × (block3.new ≡ deinterleave_block3 symbols.now block2.old block3.old) }
 {
-    if has_lengths(block2.len(), block3.len(), symbols.len()) {
-        let place = first_not_bit(symbols);
-        take_if(place == SYMBOLS, symbols, block2, block3);
-        return bits_answer(place);
-    }
-    Err(Rule::Length.at(0))
+    judge_lengths(block2.len(), block3.len(), symbols.len())?;
+    judge_bits(symbols)?;
+    take_block(symbols, 0, block2);
+    take_block(symbols, SYMBOLS_2, block3);
+    Ok(())
 }

@@ -10,14 +10,13 @@ use lib.IntN.{ℤ}
 use lib.ListN.{length, take, drop, drop_of_length-le}
 use lib.Seq.{take_at}
 use borrow.Author.Tests.{eq-eqb, ne_eqb, eqb-true, eqb-false}
-use Rattle.words.specs.Bits.{first_not_bit, value_of, bits_of, bits_at, number_bytes}
-use Rattle.words.specs.Refusal.{LENGTH, NOT_A_BIT, FIELD_2, refused_at, done_if, in_turn, left_if, left_by, given_by, Answer, Done}
-use Rattle.words.specs.Laws.Digits.{bits_none, none_not_bit}
-use Rattle.words.specs.Laws.Turns.{both_done, test_done, not_done}
+use Rattle.words.specs.Bits.{bits_judged, value_of, bits_of, bits_at, number_bytes}
+use Rattle.words.specs.Refusal.{LENGTH, FIELD_2, refused_at, done_if, in_turn, left_if, left_by, given_by, Answer, Done}
+use Rattle.words.specs.Laws.Turns.{both_done, test_done, not_done, judged_by_bits}
 use Rattle.fields.specs.Table.{fields_in, bit_count}
-use Rattle.fields.specs.Counts.{counts_in, bits_of_counts, first_out}
+use Rattle.fields.specs.Counts.{counts_in, bits_of_counts, first_out, out_answer}
 use Rattle.fields.specs.Subframe2.{bits2, first_out2, fields_answer, fields_read, counts_answer, counts_judged, fields_written, fields_bytes}
-use Rattle.fields.specs.Laws.Answers.{judged_bits, judged_right, judged_length, judged_byte}
+use Rattle.fields.specs.Laws.Answers.{judged_bits, judged_length}
 use Rattle.fields.specs.Laws.Table.{count_subframe2, bits_subframe2}
 use Rattle.fields.specs.Laws.Counts.{out_of_two}
 use Rattle.fields.specs.Laws.Subframe2.{spare, bits2_is, first_out2_lem}
@@ -30,19 +29,6 @@ use Rattle.fields.specs.declared.table.Table.TheVariants.{Subframe2}
 -- ---- judging counts
 
 module _ (zs : List ℤ) where
-  pub too_many : (length zs ≡ 33 → ⊥) → refused_at LENGTH 0 ≡ counts_judged zs
-  too_many n = ap (λ (t : Bool). in_turn (done_if t LENGTH 0) (counts_answer zs)) (sym (ne_eqb (length zs) 33 n))
-
-  by_first : (p : ℕ) → p ≡ first_out 0 (fields_in Subframe2) zs → length zs ≡ 33 → done_if (eqb p 0) FIELD_2 p ≡ counts_judged zs
-  by_first p e n =
-      ap (λ (q : ℕ). done_if (eqb q 0) FIELD_2 q) e ∙ ap (λ (t : Bool). in_turn (done_if t LENGTH 0) (counts_answer zs)) (sym (eq-eqb (length zs) 33 n))
-
-  pub some_out : (p : ℕ) → p ≡ first_out 0 (fields_in Subframe2) zs → length zs ≡ 33 → (p ≡ 0 → ⊥) → refused_at FIELD_2 p ≡ counts_judged zs
-  some_out p e n z = ap (λ (t : Bool). done_if t FIELD_2 p) (sym (ne_eqb p 0 z)) ∙ by_first p e n
-
-  pub none_out : (p : ℕ) → p ≡ first_out 0 (fields_in Subframe2) zs → length zs ≡ 33 → p ≡ 0 → Done ≡ counts_judged zs
-  none_out p e n z = ap (λ (t : Bool). done_if t FIELD_2 p) (sym (eq-eqb p 0 z)) ∙ by_first p e n
-
   -- counts that are not refused are 33 and in range
   pub done_counts : counts_judged zs ≡ Done → (length zs ≡ 33) × (first_out 0 (fields_in Subframe2) zs ≡ 0)
   done_counts e =
@@ -73,18 +59,19 @@ module _ (l : List ℕ) where
       ∙ ap (λ (t : Bool). cond t (cond (eqb (spare l) 0) 0 567) p) (ne_eqb p 0 n)) n
 
   -- so judging the counts that were read refuses as reading does
-  pub count_judged : (counts : List ℤ) (r : Refusal) → counts ≡ counts_in (fields_in Subframe2) l → length counts ≡ 33 → counts_judged counts ≡ Err r
-      → Err r ≡ given_by (fields_answer l) (counts_in (fields_in Subframe2) l)
-  count_judged counts r c n e = go (eqb place 0) refl
+  pub count_judged : (counts : List ℤ) (r : Refusal) → counts ≡ counts_in (fields_in Subframe2) l
+      → out_answer FIELD_2 0 (fields_in Subframe2) counts ≡ Err r → Err r ≡ given_by (fields_answer l) (counts_in (fields_in Subframe2) l)
+  count_judged counts r c e = go (eqb place 0) refl
     where
       place : ℕ
       place = first_out 0 (fields_in Subframe2) counts
 
+      is : (t : Bool) → eqb place 0 ≡ t → Err r ≡ done_if t FIELD_2 place
+      is t q = sym e ∙ ap (λ (t : Bool). done_if t FIELD_2 place) q
+
       go : (t : Bool) → eqb place 0 ≡ t → Err r ≡ given_by (fields_answer l) (counts_in (fields_in Subframe2) l)
-      go true q = absurd (not_done r.number r.place (sym e ∙ sym (none_out counts place refl n (eqb-true place 0 q))))
-      go false q =
-          ap (λ (a : Answer). given_by a []) (sym e ∙ sym (some_out counts place refl n (eqb-false place 0 q)))
-          ∙ count_out counts place c refl (eqb-false place 0 q)
+      go true q = absurd (not_done r.number r.place (is true q))
+      go false q = ap (λ (a : Answer). given_by a []) (is false q) ∙ count_out counts place c refl (eqb-false place 0 q)
 
   -- none of the 33: the reserved bits decide
   within_range : (counts : List ℤ) → counts ≡ counts_in (fields_in Subframe2) l → first_out 0 (fields_in Subframe2) counts ≡ 0
@@ -119,15 +106,12 @@ module _ (l : List ℕ) where
   pub wrong_length : (length l ≡ 576 → ⊥) → refused_at LENGTH 0 ≡ fields_read l
   wrong_length n = by_answer (refused_at LENGTH 0) (judged_length 576 (length l) l (fields_answer l) n)
 
-  pub wrong_byte : length l ≡ 576 → (p : ℕ) → p ≡ first_not_bit l → (p ≡ length l → ⊥) → refused_at NOT_A_BIT p ≡ fields_read l
-  wrong_byte e p q n =
-      ap (refused_at NOT_A_BIT) q
-      ∙ by_answer (refused_at NOT_A_BIT (first_not_bit l)) (judged_byte 576 (length l) l (fields_answer l) e (λ h. n (q ∙ bits_none l h)))
-
-  pub right_bits : length l ≡ 576 → (p : ℕ) → p ≡ first_not_bit l → p ≡ length l
-      → given_by (fields_answer l) (counts_in (fields_in Subframe2) l) ≡ fields_read l
-  right_bits e p q n =
-      by_answer (fields_answer l) (judged_right 576 (length l) l (fields_answer l) e (none_not_bit l (sym q ∙ n)))
+  -- 576 bytes are judged by their bits, and then by their fields
+  pub by_bits : length l ≡ 576 → (a : Answer) → bits_judged l ≡ a
+      → given_by (in_turn a (fields_answer l)) (counts_in (fields_in Subframe2) l) ≡ fields_read l
+  by_bits e a f =
+      by_answer (in_turn a (fields_answer l))
+      (judged_by_bits l 576 (length l) (fields_answer l) e ∙ ap (λ (b : Answer). in_turn b (fields_answer l)) f)
 
 -- ---- writing
 

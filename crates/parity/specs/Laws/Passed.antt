@@ -1,17 +1,19 @@
 -- What the passes over a block leave in its sums: those of its equations, modulo 2.
 -- Assumes nothing.
-use Rattle.std.specs.Prelude.{◌≡◌, length, get_or, set, replicate}
+use Rattle.std.specs.Prelude.{◌≡◌, Option, Some, None, cond, eqb, length, get_or, set, take, replicate}
 use Rattle.std.proofs.Common.{◌∙◌, arith, length-set, get_or-set_same, get_or-set_other, lt-ltb, le-ltb}
 use Rattle.std.proofs.Math.Path.{ap}
 use mathlib.Core.List.{List, [], ◌∷◌}
 use Rattle.std.proofs.Math.Logic.{⊎_elim}
 use Prim.Native.Nat.{ℕ, ◌+◌, ◌-◌, ◌%◌, ◌≤◌, ◌<◌}
-use Rattle.std.proofs.lemmas.List.{length-replicate}
+use Rattle.std.proofs.lemmas.List.{length-replicate, take-replicate}
 use Rattle.tables.specs.Coordinates.{row_sum, added, symbol_at}
-use Rattle.tables.specs.Matrix.{Matrix, submatrix_of}
+use Rattle.tables.specs.Matrix.{Matrix, matrix_of, submatrix_of}
 use Rattle.tables.specs.Rules.{IsInside, IsProper}
 use Rattle.tables.specs.Laws.Passes.{length_added}
 use Rattle.tables.specs.Laws.Cases.{before_or_not}
+use Rattle.tables.specs.declared.matrix.Subframe.{Subframe}
+use Rattle.tables.specs.declared.matrix.Subframe.TheVariants.{Two, Three}
 use Rattle.tables.specs.declared.matrix.Submatrix.{Submatrix}
 use Rattle.tables.specs.declared.matrix.Submatrix.TheVariants.{A, B, T, C, D, E}
 use Rattle.parity.specs.Equations.{data_of, p1_of, p2_of, last_sum, equation_sum, first_odd, first_unmet}
@@ -19,10 +21,19 @@ use Rattle.parity.specs.Laws.Rows.{added_right}
 use Rattle.parity.specs.Laws.Scan.{scan_same}
 use Rattle.parity.specs.Laws.Zeros.{zero_at}
 
+-- a number that counts from 1, where 0 says that there is none
+abbrev pub if_any : ℕ → Option ℕ
+if_any n = cond (eqb n 0) None (Some n)
+
 -- three submatrices that stand side by side, added over the parts of a block
 unfoldable pub side_by_side : Matrix → Submatrix → Submatrix → Submatrix → List ℕ → List ℕ → List ℕ
 side_by_side M left middle right x acc =
     added (submatrix_of M right) (p2_of M x) (added (submatrix_of M middle) (p1_of M x) (added (submatrix_of M left) (data_of M x) acc))
+
+-- sums that start from zero, as many as a subframe has equations at most: the room for them has 600
+pub zero_sums : (s : Subframe) (n : ℕ) → n ≤ (matrix_of s).equations → take n (replicate 600 0) ≡ replicate {A = ℕ} n 0
+zero_sums Two n h = take-replicate n 600 0 (omega arith)
+zero_sums Three n h = take-replicate n 600 0 (omega arith)
 
 -- the sums of all equations: those of A B T, and then that of C D E
 abbrev equation_sums : Matrix → List ℕ → List ℕ

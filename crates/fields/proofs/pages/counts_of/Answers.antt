@@ -4,10 +4,10 @@ use Rattle.fields.specs.Laws.Pages.{few_bits}
 use Rattle.fields.proofs.pages.Laws.{counts_are}
 use Rattle.fields.proofs.pages.counts_of.Goals as goal
 
-pub read_counts-requires : goal.read_counts-requires
-read_counts-requires c =
+pub read-requires : goal.read-requires
+read-requires c =
     let count = c.field_count.ensures in
     rw c.table.ensures (length-take-le c.field_count.result _ count.1 ∙ count.0, omega (arith, few_bits c.args.kind, c.requires))
 
 pub returns : goal.returns
-returns c = counts_are c.args.kind c.args.bits.now c.field_count.result c.read_counts.new.counts _ c.field_count.ensures.0 (search rules) refl
+returns c = counts_are c.args.kind c.args.bits.now c.field_count.result c.read.new.counts _ c.field_count.ensures.0 (search rules) refl

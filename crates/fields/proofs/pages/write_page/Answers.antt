@@ -8,8 +8,8 @@ use Rattle.fields.specs.Laws.Pages.{few_bits}
 use Rattle.fields.proofs.pages.Laws.{page_put}
 use Rattle.fields.proofs.pages.write_page.Goals as goal
 
-pub write_counts-requires : goal.write_counts-requires
-write_counts-requires c =
+pub write-requires : goal.write-requires
+write-requires c =
     let page = c.args.page.now in
     let fs = page_fields page.kind in
     let both = both_done (done_if (is_own page.kind page.number) FIELD_3 NUMBER_BIT) (counts_answer3 fs (used_counts page)) c.requires.0 in
@@ -21,7 +21,7 @@ write_counts-requires c =
 pub returns : goal.returns
 returns c =
     let page = c.args.page.now in
-    page_put (page_fields page.kind) c.args.bits.now c.write_head.new.bits c.write_counts.new.bits c.copy_from_slice.new.self (used_bits page)
+    page_put (page_fields page.kind) c.args.bits.now c.write_head.new.bits c.write.new.bits c.copy_from_slice.new.self (used_bits page)
     page.prn page.number c.bit_count.result (used_counts page) c.requires.1 (rw c.used_counts.ensures.0 at c.used_counts.ensures.1)
     (rw c.used_bits.ensures.0 at c.used_bits.ensures.1) c.bit_count.ensures.0
     c.write_head.ensures (search rules) (search rules)

@@ -8,8 +8,8 @@ use Rattle.fields.proofs.counts.Laws.{number_fits}
 use Rattle.fields.proofs.subframe2.Laws.{judged_done, done_counts, written_bits2}
 use Rattle.fields.proofs.subframe2.write_fields.Goals as goal
 
-pub write_counts-requires : goal.write_counts-requires
-write_counts-requires c =
+pub write-requires : goal.write-requires
+write-requires c =
     let a = c.args in
     let ok = done_counts a.counts.now (sym c.judge_counts.ensures ∙ c.in_ok-judge_counts.was) in (
       ok.0 ∙ sym count_subframe2,
@@ -21,7 +21,7 @@ returns c =
     let a = c.args in
     let long : length a.bits.now ≡ 576 = c.if-bits-ne576.false in
     let done = sym c.judge_counts.ensures ∙ c.in_ok-judge_counts.was in
-    let write = c.write_counts in
+    let write = c.write in
     let count = c.bit_count in
     let put = c.put_number in
     let written = judged_done a.counts.now a.bits.now long done put.new.bytes
