@@ -2,7 +2,7 @@
 ghost use Rattle.std.specs.Prelude.{◌≡◌, ◌++◌, ◌+◌, ◌≤◌, ◌<◌, length, drop};
 ghost use Rattle.words.specs.Bits.{bits_of};
 ghost use Rattle.words.specs.Refusal.{Done};
-ghost use Rattle.fields.specs.Table.{fields_in, bit_count};
+ghost use Rattle.fields.specs.Table.{bit_count};
 ghost use Rattle.fields.specs.Pages.{PAGE_BITS, HEAD_BITS, BODY_BITS, PAGE_COUNTS, prn_in, number_in, kind_of, table_of, page_fields, counts_answer3, range_answer, page_answer, record_of, page_taken, is_own, fields_answer3, page_from, used_counts, used_bits, put_page_answer, put_page_bytes};
 
 use super::table::{Table, bit_count, field_count};

@@ -1,12 +1,10 @@
 // Reading frames: the whole, or the time or one subframe alone.
 ghost use Rattle.std.specs.Prelude.{◌≡◌, length};
 ghost use Rattle.words.specs.Bits.{IsBits};
-ghost use Rattle.words.specs.Refusal.{Done, given_by};
-ghost use Rattle.tables.specs.declared.matrix.Subframe.TheVariants.{Two, Three};
+ghost use Rattle.words.specs.Refusal.{given_by};
 ghost use Rattle.fields.specs.Pages.{PAGE_BITS, range_answer};
-ghost use Rattle.frames.specs.Frame.{FRAME, subframe_in};
-ghost use Rattle.frames.specs.Read.{frame_judged, frame_read, time_alone, subframe2_alone, subframe3_alone};
-ghost use Rattle.frames.specs.Laws.Steps.{counts_from, page_from, frame_from};
+ghost use Rattle.frames.specs.Read.{frame_read, time_alone, subframe2_alone, subframe3_alone};
+ghost use Rattle.frames.specs.Laws.Steps.{counts_from, page_from};
 
 use super::block::judge_block;
 use super::symbols::Symbols;

@@ -2,7 +2,7 @@
 ghost use Rattle.std.specs.Prelude.{◌≡◌, ◌++◌, ◌+◌, ◌<◌, ◌≤◌, eqb, ltb, length, get_or};
 ghost use Rattle.words.specs.Bits.{first_not_bit};
 ghost use Rattle.words.specs.Refusal.{LENGTH, NOT_A_BIT, done_if};
-ghost use Rattle.parity.specs.Order.{SYMBOLS_2, SYMBOLS_3, SYMBOLS, leaves_at, stood_at, symbols_at, interleaved, place_in_order, place_before, right_lengths, interleave_answer, interleave_bytes, deinterleave_answer, deinterleave_block2, deinterleave_block3};
+ghost use Rattle.parity.specs.Order.{SYMBOLS, leaves_at, stood_at, symbols_at, interleaved, place_in_order, place_before, right_lengths, interleave_answer, interleave_bytes, deinterleave_answer, deinterleave_block2, deinterleave_block3};
 
 use words::bits::{first_not_bit, judge_bits};
 use words::refusal::{Refusal, Rule};

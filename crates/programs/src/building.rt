@@ -1,5 +1,5 @@
 // The bench program: a page line and a sheet in, a frame out.
-ghost use Rattle.std.specs.Prelude.{◌≡◌, ◌≤◌, ◌<◌, pos, length, get_or, MatchOption};
+ghost use Rattle.std.specs.Prelude.{◌≡◌, ◌≤◌, ◌<◌, length, MatchOption};
 ghost use Rattle.words.specs.Bits.{IsBits};
 ghost use Rattle.words.specs.Refusal.{given_by};
 ghost use Rattle.fields.specs.Counts.{AllInRange};

@@ -1,9 +1,9 @@
 // Writing a sheet.
 ghost use Rattle.std.specs.Prelude.{◌≡◌, [], ◌∷◌, ◌++◌, ◌+◌, ◌≤◌, length};
-ghost use Rattle.sheets.specs.Text.{LINE_END, ended_by};
-ghost use Rattle.sheets.specs.List.{NUMBERS, sheet_names};
+ghost use Rattle.sheets.specs.Text.{LINE_END};
+ghost use Rattle.sheets.specs.List.{NUMBERS};
 ghost use Rattle.sheets.specs.Number.{decimal};
-ghost use Rattle.sheets.specs.Sheet.{line_text, line_texts};
+ghost use Rattle.sheets.specs.Sheet.{line_text};
 ghost use Rattle.sheets.specs.Write.{sheet_text, numbers_answer, sheet_written, written_bytes, text_written, text_bytes};
 
 use super::list::{LISTED, NAMES, listed_field};

@@ -1,5 +1,5 @@
 // Bits, one to a byte, the most significant first, and the numbers that they stand for.
-ghost use Rattle.std.specs.Prelude.{◌≡◌, true, ◌&&◌, ◌+◌, ◌-◌, ◌%◌, ◌^◌, ◌≤◌, ◌<◌, pos, negsuc, eqb, leb, ltb, length};
+ghost use Rattle.std.specs.Prelude.{◌≡◌, true, ◌+◌, ◌-◌, ◌%◌, ◌^◌, ◌≤◌, ◌<◌, pos, negsuc, eqb, leb, ltb, length};
 ghost use Rattle.std.proofs.lemmas.List.Edits.{sets};
 ghost use Rattle.std.specs.Int.Signed.{mag};
 ghost use Rattle.words.specs.Bits.{first_not_bit, bits_judged, value_of, bits_of, signed_of, unsigned_of, bits_at, holds_signed, number_answer, number_bytes, signed_answer, signed_bytes, copy_answer, copy_bytes};

@@ -10,13 +10,12 @@ use lib.IntN.{ℤ}
 use lib.ListN.{length, take, drop, drop_of_length-le}
 use lib.Seq.{take_at}
 use borrow.Author.Tests.{eq-eqb, ne_eqb, eqb-true, eqb-false}
-use Rattle.words.specs.Bits.{bits_judged, value_of, bits_of, bits_at, number_bytes}
+use Rattle.words.specs.Bits.{value_of, bits_of, bits_at, number_bytes}
 use Rattle.words.specs.Refusal.{LENGTH, FIELD_2, refused_at, done_if, in_turn, left_if, left_by, given_by, Answer, Done}
-use Rattle.words.specs.Laws.Turns.{both_done, test_done, not_done, judged_by_bits}
+use Rattle.words.specs.Laws.Turns.{both_done, test_done, not_done}
 use Rattle.fields.specs.Table.{fields_in, bit_count}
 use Rattle.fields.specs.Counts.{counts_in, bits_of_counts, first_out, out_answer}
-use Rattle.fields.specs.Subframe2.{bits2, first_out2, fields_answer, fields_read, counts_answer, counts_judged, fields_written, fields_bytes}
-use Rattle.fields.specs.Laws.Answers.{judged_bits, judged_length}
+use Rattle.fields.specs.Subframe2.{bits2, first_out2, fields_answer, counts_answer, counts_judged, fields_written, fields_bytes}
 use Rattle.fields.specs.Laws.Table.{count_subframe2, bits_subframe2}
 use Rattle.fields.specs.Laws.Counts.{out_of_two}
 use Rattle.fields.specs.Laws.Subframe2.{spare, bits2_is, first_out2_lem}
@@ -98,20 +97,6 @@ module _ (l : List ℕ) where
   all_in counts c e n =
       ap (λ (x : List ℤ). given_by Done x) c
       ∙ by_place 0 (within_range counts c e ∙ ap (λ (v : ℕ). cond (eqb v 0) 0 567) n)
-
-  -- what is judged before
-  by_answer : (a : Answer) → judged_bits 576 (length l) l (fields_answer l) ≡ a → given_by a (counts_in (fields_in Subframe2) l) ≡ fields_read l
-  by_answer a e = ap (λ (x : Answer). given_by x (counts_in (fields_in Subframe2) l)) (sym e)
-
-  pub wrong_length : (length l ≡ 576 → ⊥) → refused_at LENGTH 0 ≡ fields_read l
-  wrong_length n = by_answer (refused_at LENGTH 0) (judged_length 576 (length l) l (fields_answer l) n)
-
-  -- 576 bytes are judged by their bits, and then by their fields
-  pub by_bits : length l ≡ 576 → (a : Answer) → bits_judged l ≡ a
-      → given_by (in_turn a (fields_answer l)) (counts_in (fields_in Subframe2) l) ≡ fields_read l
-  by_bits e a f =
-      by_answer (in_turn a (fields_answer l))
-      (judged_by_bits l 576 (length l) (fields_answer l) e ∙ ap (λ (b : Answer). in_turn b (fields_answer l)) f)
 
 -- ---- writing
 
