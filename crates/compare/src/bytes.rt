@@ -4,21 +4,21 @@ use super::input::{digit, is_next, read_byte, read_number};
 // What bytes hold that are lent to be written in, so that it can be seen whether they are left as they were.
 pub(crate) const GARBAGE: u8 = 7;
 
-// Reads so many bits, of which a byte up to `most` may be one, and the character that has to stand behind them, and says whether they
-// are such.
-pub(crate) fn read_bits(bits: &mut [u8], most: u8, end: u8) -> bool {
+// Reads so many digits to this base, 2 where they are bits, and the character that has to stand behind them, and says whether they are
+// such.
+pub(crate) fn read_bits(bits: &mut [u8], base: u8, end: u8) -> bool {
     io::read_full(0, bits);
-    let are_bits = to_values(bits, most);
+    let are_bits = to_values(bits, base);
     let is_end = is_next(end);
     are_bits && is_end
 }
 
-// Turns digits into their values, up to the first character that is no digit up to `most`, and says whether there is none.
-fn to_values(text: &mut [u8], most: u8) -> bool {
+// Turns digits into their values, up to the first character that is no digit to this base, and says whether there is none.
+fn to_values(text: &mut [u8], base: u8) -> bool {
     for character in text.iter_mut() {
-        match digit(*character, 10) {
-            Some(value) if value <= most => *character = value,
-            _ => return false,
+        match digit(*character, base) {
+            Some(value) => *character = value,
+            None => return false,
         }
     }
     true

@@ -1,4 +1,6 @@
 // The contents and the symbols of frames, as the second program writes them.
+ghost use Rattle.std.specs.Prelude.{◌≤◌};
+
 use super::bytes::read_bits;
 use super::input::{digit, is_next, next_character, read_rest};
 use words::bits::put_number;
@@ -24,7 +26,7 @@ impl Contents {
     // such.
     pub(crate) fn read(&mut self) -> bool {
         let are_counts = read_counts(&mut self.counts);
-        let are_bits = read_bits(&mut self.page, 2, b' ');
+        let are_bits = read_bits(&mut self.page, 3, b' ');
         are_counts && are_bits
     }
 }
@@ -38,6 +40,18 @@ pub(crate) fn read_counts(counts: &mut [i64]) -> bool {
         }
     }
     true
+}
+
+// The same of so many counts, which are none where one of them is.
+pub(crate) fn read_numbers<const N: usize>() -> Option<[i64; N]>
+    requires { N ≤ 34 }
+{
+    let mut counts = [0i64; N];
+    if read_counts(&mut counts) {
+        Some(counts)
+    } else {
+        None
+    }
 }
 
 // A count's first character is a minus or its first digit.
@@ -69,11 +83,11 @@ pub(crate) fn read_symbols(frame: &mut [u8; 1800]) -> bool {
 
 // Up to the first character that is no digit.
 fn unpack(text: &[u8; 450], frame: &mut [u8; 1800]) -> bool {
-    for (i, &character) in text.iter().enumerate() {
+    for (symbols, &character) in frame.chunks_exact_mut(4).zip(text.iter()) {
         let Some(four) = digit(character, 16) else {
             return false;
         };
-        let _ = put_number(frame, i * 4, 4, u64::from(four));
+        let _ = put_number(symbols, 0, 4, u64::from(four));
     }
     true
 }

@@ -1,6 +1,9 @@
 // Reading the input, whose lines second/cases.c describes. What is read is judged when all of it is read, so that where it ends does not
 // hang on what it says.
 
+// As many as any number that fits has.
+const MOST_DIGITS: u8 = 20;
+
 // The next character; none where the input is at its end.
 pub(crate) fn next_character() -> Option<u8> {
     let mut text = [0u8; 1];
@@ -12,7 +15,8 @@ pub(crate) fn is_next(character: u8) -> bool {
     next_character() == Some(character)
 }
 
-// The value of a digit to this base, 16 at most; none where it is no such digit.
+// The value of a digit to this base, 16 at most; none where it is no such digit. `to_digit` takes capital letters too, which the second
+// program does not write.
 pub(crate) fn digit(character: u8, base: u8) -> Option<u8> {
     let value = match character {
         b'0'..=b'9' => character - b'0',
@@ -23,18 +27,25 @@ pub(crate) fn digit(character: u8, base: u8) -> Option<u8> {
 }
 
 // The number and one digit more behind it.
-fn with_digit(number: Option<usize>, character: Option<u8>) -> Option<usize> {
-    let value = digit(character?, 10)?;
-    number?.checked_mul(10)?.checked_add(usize::from(value))
+fn with_digit(number: Option<usize>, character: Option<u8>, base: u8) -> Option<usize> {
+    let value = digit(character?, base)?;
+    number?
+        .checked_mul(usize::from(base))?
+        .checked_add(usize::from(value))
 }
 
-// Reads a number of so many digits and the character that has to stand behind them.
-pub(crate) fn read_number(digits: u8, end: u8) -> Option<usize> {
+// Reads a number of so many digits to this base, 16 at most, and the character that has to stand behind them.
+pub(crate) fn read_digits(digits: u8, base: u8, end: u8) -> Option<usize> {
     let mut number = Some(0);
     for _ in 0..digits {
-        number = with_digit(number, next_character());
+        number = with_digit(number, next_character(), base);
     }
     if is_next(end) { number } else { None }
+}
+
+// The same to the base 10.
+pub(crate) fn read_number(digits: u8, end: u8) -> Option<usize> {
+    read_digits(digits, 10, end)
 }
 
 // The same of a number of three digits that is a byte.
@@ -42,15 +53,15 @@ pub(crate) fn read_byte(end: u8) -> Option<u8> {
     u8::try_from(read_number(3, end)?).ok()
 }
 
-// Reads the rest of a number of at most 20 digits, whose first is given, and the character that ends it.
+// Reads the rest of a number, whose first digit is given, and the character that ends it.
 pub(crate) fn read_rest(first: u8, end: u8) -> Option<usize> {
     let mut number = Some(0);
     let mut character = Some(first);
-    for _ in 0..20u8 {
+    for _ in 0..MOST_DIGITS {
         if character == Some(end) {
             break;
         }
-        number = with_digit(number, character);
+        number = with_digit(number, character, 10);
         character = next_character();
     }
     if character == Some(end) { number } else { None }

@@ -5,6 +5,7 @@ use super::records::Record;
 use super::told::{DONE, Told, read_told};
 use fields::pages::{Page, judge_page, put_page, take_page};
 
+// What stands in a record for the counts that its kind does not use.
 const GARBAGE_COUNT: i64 = i64::MAX;
 
 // ---- taking
@@ -13,7 +14,7 @@ const GARBAGE_COUNT: i64 = i64::MAX;
 pub(crate) fn page_taken_agrees() -> bool {
     let mut bytes = [0u8; 251];
     let length = read_number(4, b' ');
-    let are_bits = read_bits(&mut bytes[..250], 1, b' ');
+    let are_bits = read_bits(&mut bytes[..250], 2, b' ');
     let are_places = set_places(&mut bytes);
     are_bits && are_places && taking_agrees(first_told(&bytes, length))
 }
@@ -59,7 +60,7 @@ fn record_put_agrees(page: Page, room: Option<usize>) -> bool {
     let mut expected = [GARBAGE; 251];
     let told = read_told(b' ');
     let is_read = if told == DONE {
-        read_bits(&mut expected[..250], 1, b'\n')
+        read_bits(&mut expected[..250], 2, b'\n')
     } else {
         is_next(b'\n')
     };

@@ -15,7 +15,7 @@ pub(crate) fn filled_agrees<const N: usize>(subframe: Subframe) -> bool
 {
     let mut expected = [0u8; N];
     let mut block = [1u8; N];
-    let is_read = read_bits(&mut expected, 1, b'\n');
+    let is_read = read_bits(&mut expected, 2, b'\n');
     copy_first(&expected[..N / 2], &mut block);
     let answer = fill_parity(subframe, &mut block);
     is_read && answer.is_ok() && block == expected
@@ -26,7 +26,7 @@ pub(crate) fn unmet_agrees<const N: usize>(subframe: Subframe, rule: Rule) -> bo
 {
     let mut block = [0u8; N];
     let place = read_number(4, b' ');
-    let is_read = read_bits(&mut block, 1, b'\n');
+    let is_read = read_bits(&mut block, 2, b'\n');
     let answer = first_unmet(subframe, &block);
     is_read && unmet(rule, place) == Some(answer)
 }

@@ -8,7 +8,7 @@ use frames::read::{Frame, read, read_subframe2, read_subframe3, read_time};
 use words::time::Time;
 
 // What is told where the time is refused.
-const NO_TIME: Time = Time {
+const ZERO_TIME: Time = Time {
     toi: 0,
     corrected: 0,
 };
@@ -36,7 +36,7 @@ fn reading_agrees(symbols: &[u8], base: &Contents) -> bool {
         return false;
     };
     told_with(whole, frame_of(time, base)) == Some(read(symbols))
-        && told_or_zeros(alone, time, NO_TIME) == Some(read_time(symbols))
+        && told_or_zeros(alone, time, ZERO_TIME) == Some(read_time(symbols))
         && told_with(two, base.counts) == Some(read_subframe2(symbols))
         && told_with(three, base.page) == Some(read_subframe3(symbols))
 }

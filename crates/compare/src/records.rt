@@ -16,6 +16,13 @@ pub(crate) struct Record {
     pub(crate) bits: [u8; 236],
 }
 
+// How many counts, and how many bits.
+#[derive(Clone, Copy)]
+struct Used {
+    counts: usize,
+    bits: usize,
+}
+
 impl Record {
     // A record of bare bits, with its counts and bits as lent.
     pub(crate) fn new(counts: [i64; 30], bits: [u8; 236]) -> Record {
@@ -34,8 +41,9 @@ impl Record {
         let prn = read_byte(b' ');
         let number = read_byte(b' ');
         self.kind = read_kind();
-        let are_counts = read_counts(&mut self.counts[..count_of(self.kind)]);
-        let are_bits = read_bits(&mut self.bits[..bit_count(self.kind)], 1, end);
+        let used = used_of(self.kind);
+        let are_counts = read_counts(&mut self.counts[..used.counts]);
+        let are_bits = read_bits(&mut self.bits[..used.bits], 2, end);
         match (prn, number) {
             (Some(prn), Some(number)) => {
                 self.prn = prn;
@@ -72,24 +80,14 @@ fn read_kind() -> Option<Kind> {
     }
 }
 
-// How many counts a kind uses.
-fn count_of(kind: Option<Kind>) -> usize
-    ensures { result ≤ 30 }
+// What a kind uses.
+fn used_of(kind: Option<Kind>) -> Used
+    ensures { (result.counts ≤ 30) × (result.bits ≤ 236) }
 {
-    match kind {
-        Some(Kind::One) => 17,
-        Some(Kind::Six) => 30,
-        _ => 0,
-    }
-}
-
-// How many bits.
-fn bit_count(kind: Option<Kind>) -> usize
-    ensures { result ≤ 236 }
-{
-    match kind {
-        Some(Kind::One) => 74,
-        Some(Kind::Six) => 0,
-        _ => 236,
-    }
+    let (counts, bits) = match kind {
+        Some(Kind::One) => (17, 74),
+        Some(Kind::Six) => (30, 0),
+        _ => (0, 236),
+    };
+    Used { counts, bits }
 }

@@ -23,10 +23,7 @@ pub(crate) fn read_told(end: u8) -> Told {
 
 // What is told of a call: that it gives this value, or what is refused.
 pub(crate) fn told_with<T: Copy>(told: Told, value: T) -> Option<Result<T, Refusal>> {
-    match told? {
-        Ok(()) => Some(Ok(value)),
-        Err(refusal) => Some(Err(refusal)),
-    }
+    told.map(|answer| answer.map(|()| value))
 }
 
 // The same where a value is told beside a refusal too: it has to be zeros there.

@@ -1,6 +1,6 @@
 // The cases of walks over sheets.
 use super::bytes::first_bytes;
-use super::contents::read_counts;
+use super::contents::read_numbers;
 use super::input::read_number;
 use super::texts::read_text;
 use super::told::{DONE, Told, read_told};
@@ -27,7 +27,7 @@ pub(crate) fn walk_agrees(base_text: &[u8], text: &mut [u8]) -> bool {
     }
 }
 
-// What is no number stands for a place past every text.
+// What is no number is a place past every text, where the library refuses to walk: the other steps of its line are judged all the same.
 fn read_place(end: u8) -> usize {
     read_number(4, end).unwrap_or(usize::MAX)
 }
@@ -51,7 +51,7 @@ fn step_end(left: usize) -> u8 {
 
 fn read_step(end: u8) -> ToldStep {
     let finished = read_finished();
-    let numbers = read_numbers();
+    let numbers = read_numbers::<34>();
     let told = read_told(b' ');
     let place = read_place(end);
     ToldStep {
@@ -62,19 +62,10 @@ fn read_step(end: u8) -> ToldStep {
     }
 }
 
-fn read_numbers() -> Option<[i64; 34]> {
-    let mut numbers = [0i64; 34];
-    if read_counts(&mut numbers) {
-        Some(numbers)
-    } else {
-        None
-    }
-}
-
 fn step_agrees(bytes: &[u8], from: usize, expected: &ToldStep) -> bool {
     let mut walk = Walk { bytes, place: from };
-    walk.next();
-    told_step(walk_back(bytes, from), walk.place) == *expected
+    let step = walk.next();
+    step == walk_back(bytes, from) && told_step(step, walk.place) == *expected
 }
 
 // How a step is told, and the place where the walk goes on. Zeros are told where no sheet is read.

@@ -81,7 +81,7 @@ impl Output {
     }
 }
 
-// `refused N at P` and a newline.
+// `refused N at P` and a newline; the digits are written as those of a sheet.
 pub(crate) fn refusal_output(refusal: Refusal) -> Output
     ensures { result ≡ output_of (refusal_text refusal.number refusal.place) }
 {

@@ -20,7 +20,8 @@ pub(crate) fn step_at(bytes: &[u8], place: usize) -> Option<Result<Sheet, Refusa
     if bytes.len() < place {
         return Some(Err(Rule::Length.at(0)));
     }
-    if place == 0 {
+    let finished = place == 0;
+    if finished {
         return None;
     }
     Some(read_sheet(&bytes[..place]))

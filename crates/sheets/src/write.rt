@@ -4,7 +4,7 @@ ghost use Rattle.sheets.specs.Text.{LINE_END};
 ghost use Rattle.sheets.specs.List.{NUMBERS};
 ghost use Rattle.sheets.specs.Number.{decimal};
 ghost use Rattle.sheets.specs.Sheet.{line_text};
-ghost use Rattle.sheets.specs.Write.{sheet_text, numbers_answer, sheet_written, written_bytes, text_written, text_bytes};
+ghost use Rattle.sheets.specs.Write.{numbers_answer, sheet_written, written_bytes, text_written, text_bytes};
 
 use super::list::{LISTED, NAMES, listed_field};
 use super::number::Digits;
@@ -47,17 +47,15 @@ fn put_line(sheet: &mut SheetText, name: &[u8], number: i64)
     sheet.push(b'\n');
 }
 
-// The sheet of good numbers: a line for each, with its name of the list, and the trailer.
-fn sheet_of(numbers: &[i64]) -> SheetText
-    requires { (length numbers.now ≡ NUMBERS) × (length (sheet_text numbers.now) ≤ SHEET_BYTES) }
-    ensures { result ≡ sheet_text numbers.now }
+// Puts a line for each number behind it, with its name of the list.
+fn put_lines(sheet: &mut SheetText, numbers: &[i64])
+    requires { (length numbers.now ≡ NUMBERS)
+        × (length sheet.old + length (ended_by LINE_END (line_texts sheet_names numbers.now)) ≤ SHEET_BYTES) }
+    ensures { sheet.new ≡ sheet.old ++ ended_by LINE_END (line_texts sheet_names numbers.now) }
 {
-    let mut sheet = SheetText::new();
     for (name, number) in NAMES.iter().zip(numbers) {
-        put_line(&mut sheet, name, *number);
+        put_line(&mut *sheet, name, *number);
     }
-    put_trailer(&mut sheet);
-    sheet
 }
 
 // Judges the numbers: 3 for a time that is none, then 6.
@@ -82,5 +80,8 @@ pub fn write_sheet(numbers: &[i64], out: &mut [u8]) -> Result<usize, Refusal>
         return Err(Rule::Length.at(0));
     }
     judge_numbers(numbers)?;
-    write_text(sheet_of(numbers).as_slice(), out)
+    let mut sheet = SheetText::new();
+    put_lines(&mut sheet, numbers);
+    put_trailer(&mut sheet);
+    write_text(sheet.as_slice(), out)
 }

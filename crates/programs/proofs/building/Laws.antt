@@ -159,19 +159,19 @@ module _ (input : List ℕ) where
             refused_is (symbols_answer PAGE_BITS line) (symbols_in line) r e,
           ) refl
 
+      line_on : symbols_answer PAGE_BITS (first_line input) ≡ Done
+          → input_answer input ≡ behind_answer (symbols_in (first_line input)) (after_first input)
+      unfolding input_answer
+      line_on e = rw (le-leb (length input) MOST_INPUT short, lt-ltb (index_of LINE_END input) (length input) newline, e) refl
+
       pub line_taken : (behind page : List ℕ) → behind ≡ after_first input → line_symbols ≡ Ok page
           → given_by (behind_answer page behind) (frame_of (sheet_contents page behind)) ≡ input_built
-      unfolding input_answer input_contents
+      unfolding input_contents
       line_taken behind page after e =
           let given = given_ok (symbols_answer PAGE_BITS line) (symbols_in line) page e in
-          rw (
-            le-leb (length input) MOST_INPUT short,
-            lt-ltb (index_of LINE_END input) (length input) newline,
-            sym first,
-            given.0,
-            given.1,
-            after,
-          ) refl
+          ap₂ (λ (p b : List ℕ). given_by (behind_answer p b) (frame_of (sheet_contents p b))) (given.1 ∙ ap symbols_in first) after
+          ∙ ap (λ (a : Answer). given_by a (frame_of (input_contents input)))
+          (sym (line_on (ap (symbols_answer PAGE_BITS) (sym first) ∙ given.0)))
 
 -- symbols that are taken are bits
 pub taken_bits : (line page : List ℕ) → given_by (symbols_answer PAGE_BITS line) (symbols_in line) ≡ Ok page → IsBits page

@@ -19,8 +19,8 @@ pub first_position : (b : ℕ) (l : List ℕ) → first_at b l ≡ position (λ 
 first_position b l = ap (λ (n : ℕ). cond (ltb n (length l)) (Some n) None) (index_is b l)
 
 -- how many bytes stand before it
-pub index_first : (b : ℕ) (l : List ℕ) → unwrap_or (first_at b l) (length l) ≡ index_of b l
-index_first b l = by_place (index_of b l) (length l) (index_le b l)
+pub first_or : (b : ℕ) (l : List ℕ) → unwrap_or (first_at b l) (length l) ≡ index_of b l
+first_or b l = by_place (index_of b l) (length l) (index_le b l)
   where
     by_place : (n m : ℕ) → n ≤ m → unwrap_or (cond (ltb n m) (Some n) None) m ≡ n
     by_place n m h = grind (arith, nat_tests)

@@ -14,14 +14,14 @@ returns-then-bytes-place c =
     let a = c.args in
     rw (lt-leb a.place (length a.bytes.now) c.if-bytes-place.true) (ap (λ (r : Refusal). Some (Err r)) c.at.ensures)
 
-pub returns-then-place-eq0 : goal.returns-then-place-eq0
+pub returns-then-finished : goal.returns-then-finished
 unfolding step_at
-returns-then-place-eq0 c =
+returns-then-finished c =
     let a = c.args in
-    rw (le-leb a.place (length a.bytes.now) (omega arith), eq-eqb a.place 0 c.if-place-eq0.true)
+    rw (le-leb a.place (length a.bytes.now) (omega arith), eq-eqb a.place 0 c.if-finished.true)
 
 pub returns : goal.returns
 unfolding step_at
 returns c =
     let a = c.args in
-    rw (le-leb a.place (length a.bytes.now) (omega arith), ne_eqb a.place 0 c.if-place-eq0.false) (ap Some c.read_sheet.ensures)
+    rw (le-leb a.place (length a.bytes.now) (omega arith), ne_eqb a.place 0 c.if-finished.false) (ap Some c.read_sheet.ensures)

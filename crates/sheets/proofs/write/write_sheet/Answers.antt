@@ -2,8 +2,13 @@
 use mathlib.Core.Path.{◌≡◌, sym, ap, ◌∙◌}
 use Rattle.std.proofs.Common.{rules}
 use Rattle.std.specs.Prelude.{Err, ℕ, List}
-use Rattle.sheets.specs.Write.{text_written, text_bytes}
-use Rattle.sheets.specs.Laws.Lengths.{sheet_short}
+use Rattle.sheets.specs.Write.{sheet_text, text_written, text_bytes}
+use Rattle.sheets.specs.Laws.Lengths.{sheet_short, sheet_long}
+use Rattle.std.proofs.Common.{◌++◌, length, arith}
+use Rattle.sheets.specs.Text.{LINE_END, ended_by}
+use Rattle.sheets.specs.List.{sheet_names}
+use Rattle.sheets.specs.Sheet.{line_texts}
+use Rattle.sheets.specs.Trailer.{trailer_text}
 use Rattle.sheets.proofs.write.Laws.{wrong_length, not_good, good_written}
 use Rattle.sheets.proofs.write.write_sheet.Goals as goal
 
@@ -20,16 +25,27 @@ returns-in_err-judge_numbers c =
     not_good a.numbers.now a.out.now c.if-numbers-ne-LISTED.false _ r.number r.place
     (sym c.judge_numbers.ensures ∙ c.in_err-judge_numbers.was) refused
 
-pub sheet_of-requires : goal.sheet_of-requires
-sheet_of-requires c =
+pub put_lines-requires : goal.put_lines-requires
+put_lines-requires c =
+    let zs = c.args.numbers.now in
     let many = c.if-numbers-ne-LISTED.false in
-    (many, sheet_short c.args.numbers.now many (sym c.judge_numbers.ensures ∙ c.in_ok-judge_numbers.was))
+    (many, omega (arith, ap length c.new-sheet.ensures, sheet_long zs, sheet_short zs many (sym c.judge_numbers.ensures ∙ c.in_ok-judge_numbers.was)))
+
+pub put_trailer-requires : goal.put_trailer-requires
+put_trailer-requires c =
+    let zs = c.args.numbers.now in
+    let lines = c.put_lines.ensures ∙ ap (λ (l : List ℕ). l ++ ended_by LINE_END (line_texts sheet_names zs)) c.new-sheet.ensures in
+    omega
+    (arith, ap length lines, sheet_long zs, sheet_short zs c.if-numbers-ne-LISTED.false (sym c.judge_numbers.ensures ∙ c.in_ok-judge_numbers.was))
 
 pub returns : goal.returns
+unfolding sheet_text
 returns c =
     let a = c.args in
     let out = a.out.now in
-    let text = c.as_slice.ensures ∙ c.sheet_of.ensures in
-    good_written a.numbers.now out c.if-numbers-ne-LISTED.false c.write_text.result c.write_text.new.out (sym c.judge_numbers.ensures ∙ c.in_ok-judge_numbers.was)
+    let lines = c.put_lines.ensures ∙ ap (λ (l : List ℕ). l ++ ended_by LINE_END (line_texts sheet_names a.numbers.now)) c.new-sheet.ensures in
+    let text = c.as_slice.ensures ∙ c.put_trailer.ensures ∙ ap (λ (l : List ℕ). l ++ trailer_text (length l)) lines in
+    good_written a.numbers.now out c.if-numbers-ne-LISTED.false c.write_text.result c.write_text.new.out
+    (sym c.judge_numbers.ensures ∙ c.in_ok-judge_numbers.was)
     (c.write_text.ensures.0 ∙ ap (λ (t : List ℕ). text_written t out) text)
     (c.write_text.ensures.1 ∙ ap (λ (t : List ℕ). text_bytes t out) text)
