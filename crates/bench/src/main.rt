@@ -1,14 +1,12 @@
 // The bench program: reads a page line and a sheet from standard input, and prints the frame or the refusal.
 #![tactic(auto)]
 
-use programs::building::print_frame;
+use programs::building::{MOST_INPUT, print_frame};
 
-// Of input over 8192 bytes, one byte more shows that it is.
+// Of input that is too long, one byte more shows that it is.
 fn main() {
-    let mut input = [0u8; 8193];
+    let mut input = [0u8; MOST_INPUT + 1];
     let count = io::read_full(0, &mut input);
     let output = print_frame(&input[..count]);
-    let bytes = output.bytes;
-    let size = output.size;
-    io::write_all(1, &bytes[..size]);
+    io::write_all(1, &output.bytes[..output.size]);
 }

@@ -44,7 +44,7 @@ const AF2: Term = Term {
 const I64_END: f64 = 9223372036854775808.0;
 
 // The clock terms.
-#[derive(Clone, Copy)]
+#[derive(Clone, Copy, PartialEq)]
 pub struct Clock {
     pub af0: f64,
     pub af1: f64,

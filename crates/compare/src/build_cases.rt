@@ -1,13 +1,10 @@
 // The cases that set the base, which is a frame and its contents: building, and frames that no builder makes.
 use super::base::Base;
-use super::bytes::all_are;
+use super::bytes::{GARBAGE, all_are};
 use super::contents::{Contents, read_symbols};
 use super::input::read_number;
-use super::told::{Told, is_told, read_told, tells_done};
+use super::told::{DONE, Told, read_told};
 use frames::build::build;
-
-// What a frame holds that is lent to be built in.
-const GARBAGE: u8 = 7;
 
 // ---- the base
 
@@ -27,7 +24,7 @@ pub(crate) fn built_agrees(base: &mut Base) -> bool {
     let are_contents = contents.read();
     let told = read_told(b' ');
     let are_symbols = read_symbols(&mut expected);
-    if tells_done(told) {
+    if told == DONE {
         base.contents = contents;
         base.frame = expected;
     }
@@ -46,11 +43,11 @@ fn building_agrees(
     };
     let mut frame = [GARBAGE; 1800];
     let answer = build(toi, &contents.counts, &contents.page, &mut frame);
-    is_told(answer, told) && is_left(told, &frame, expected)
+    told == Some(answer) && is_left(told, &frame, expected)
 }
 
 fn is_left(told: Told, frame: &[u8; 1800], expected: &[u8; 1800]) -> bool {
-    if tells_done(told) {
+    if told == DONE {
         frame == expected
     } else {
         all_are(frame, GARBAGE)

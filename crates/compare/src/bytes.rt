@@ -1,6 +1,9 @@
 // Bytes of lines that are bits, and bytes that are lent.
 use super::input::{digit, is_next, read_byte, read_number};
 
+// What bytes hold that are lent to be written in, so that it can be seen whether they are left as they were.
+pub(crate) const GARBAGE: u8 = 7;
+
 // Reads so many bits, of which a byte up to `most` may be one, and the character that has to stand behind them, and says whether they
 // are such.
 pub(crate) fn read_bits(bits: &mut [u8], most: u8, end: u8) -> bool {
@@ -13,7 +16,7 @@ pub(crate) fn read_bits(bits: &mut [u8], most: u8, end: u8) -> bool {
 // Turns digits into their values, up to the first character that is no digit up to `most`, and says whether there is none.
 fn to_values(text: &mut [u8], most: u8) -> bool {
     for character in text.iter_mut() {
-        match digit(*character) {
+        match digit(*character, 10) {
             Some(value) if value <= most => *character = value,
             _ => return false,
         }
@@ -38,18 +41,20 @@ fn set_place(bytes: &mut [u8]) -> bool {
     let place = read_number(4, b' ');
     let byte = read_byte(b' ');
     match (place, byte) {
-        (Some(place), Some(byte)) => with_byte(bytes, place, byte).is_some(),
+        (Some(place), Some(byte)) => set_byte(bytes, place, byte),
         _ => false,
     }
 }
 
-// Sets a byte, and gives the place behind it; none where there is no such place.
-pub(crate) fn with_byte(bytes: &mut [u8], at: usize, byte: u8) -> Option<usize> {
-    if at >= bytes.len() {
-        return None;
+// Sets a byte, and says whether there is such a place.
+pub(crate) fn set_byte(bytes: &mut [u8], at: usize, byte: u8) -> bool {
+    match bytes.get_mut(at) {
+        Some(place) => {
+            *place = byte;
+            true
+        }
+        None => false,
     }
-    bytes[at] = byte;
-    Some(at + 1)
 }
 
 // Copies as many bytes as there are in both.

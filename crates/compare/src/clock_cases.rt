@@ -1,8 +1,8 @@
 // The cases of clock terms: counts handed out, and terms taken back.
 use super::contents::read_counts;
-use super::input::{hex_digit, is_next, next_character};
-use super::told::{Told, is_told, read_told, tells_done};
-use clock::clock::{Clock, clock_of, counts_of};
+use super::input::{digit, is_next, next_character};
+use super::told::{DONE, Told, read_told, told_or_zeros};
+use clock::clock::{Clock, ClockCounts, clock_of, counts_of};
 
 // A minus sign's bit, and the bits of plus infinity. More, but for the sign, are those of a NaN.
 const SIGN: u64 = 9223372036854775808;
@@ -17,7 +17,30 @@ struct Terms {
     af2: u64,
 }
 
+const NO_COUNTS: ClockCounts = ClockCounts {
+    af0: 0,
+    af1: 0,
+    af2: 0,
+};
+
+// The bits of plus zeros.
+const NO_TERMS: Terms = Terms {
+    af0: 0,
+    af1: 0,
+    af2: 0,
+};
+
 // ---- reading
+
+fn read_clock_counts() -> Option<ClockCounts> {
+    let mut counts = [0i64; 3];
+    if read_counts(&mut counts) {
+        let [af0, af1, af2] = counts;
+        Some(ClockCounts { af0, af1, af2 })
+    } else {
+        None
+    }
+}
 
 fn read_terms() -> Option<Terms> {
     let af0 = read_term();
@@ -40,7 +63,7 @@ fn read_term() -> Option<u64> {
 }
 
 fn with_hex_digit(bits: Option<u64>, character: Option<u8>) -> Option<u64> {
-    let four = hex_digit(character?)?;
+    let four = digit(character?, 16)?;
     Some(bits? << 4 | u64::from(four))
 }
 
@@ -80,42 +103,33 @@ fn clock_with(terms: Terms) -> Clock {
 
 // ---- the cases
 
-// Unless it is refused, both ways: zeros stand beside a refusal, and plus zeros are the terms of zeros.
+// Unless it is refused, both ways.
 pub(crate) fn clock_handed_agrees() -> bool {
-    let mut counts = [0i64; 3];
-    let are_counts = read_counts(&mut counts);
+    let counts = read_clock_counts();
     let terms = read_terms();
     let told = read_told(b'\n');
-    let Some(terms) = terms else {
+    let (Some(counts), Some(terms)) = (counts, terms) else {
         return false;
     };
-    are_counts
-        && handing_agrees(&counts, terms, told)
-        && (!tells_done(told) || taking_agrees(terms, &counts, told))
+    handing_agrees(counts, terms, told) && (told != DONE || taking_agrees(terms, counts, told))
 }
 
 pub(crate) fn clock_taken_agrees() -> bool {
-    let mut counts = [0i64; 3];
     let terms = read_terms();
-    let are_counts = read_counts(&mut counts);
+    let counts = read_clock_counts();
     let told = read_told(b'\n');
-    let Some(terms) = terms else {
+    let (Some(counts), Some(terms)) = (counts, terms) else {
         return false;
     };
-    are_counts
-        && taking_agrees(terms, &counts, told)
-        && (!tells_done(told) || handing_agrees(&counts, terms, told))
+    taking_agrees(terms, counts, told) && (told != DONE || handing_agrees(counts, terms, told))
 }
 
-fn handing_agrees(counts: &[i64; 3], terms: Terms, told: Told) -> bool {
-    let taken = clock_of(counts[0], counts[1], counts[2]);
-    let answer = taken.answer;
-    let clock = taken.clock;
-    is_told(answer, told) && terms_of(clock) == terms
+fn handing_agrees(counts: ClockCounts, terms: Terms, told: Told) -> bool {
+    let handed = clock_of(counts.af0, counts.af1, counts.af2).map(|clock| terms_of(clock));
+    told_or_zeros(told, terms, NO_TERMS) == Some(handed)
 }
 
-fn taking_agrees(terms: Terms, counts: &[i64; 3], told: Told) -> bool {
+fn taking_agrees(terms: Terms, counts: ClockCounts, told: Told) -> bool {
     let taken = counts_of(clock_with(terms));
-    let answer = taken.answer;
-    is_told(answer, told) && [taken.af0, taken.af1, taken.af2] == *counts
+    told_or_zeros(told, counts, NO_COUNTS) == Some(taken)
 }

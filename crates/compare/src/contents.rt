@@ -1,6 +1,6 @@
 // The contents and the symbols of frames, as the second program writes them.
 use super::bytes::read_bits;
-use super::input::{hex_digit, is_next, next_character, read_rest};
+use super::input::{digit, is_next, next_character, read_rest};
 use words::bits::put_number;
 
 // ---- contents
@@ -70,10 +70,10 @@ pub(crate) fn read_symbols(frame: &mut [u8; 1800]) -> bool {
 // Up to the first character that is no digit.
 fn unpack(text: &[u8; 450], frame: &mut [u8; 1800]) -> bool {
     for (i, &character) in text.iter().enumerate() {
-        let Some(four) = hex_digit(character) else {
+        let Some(four) = digit(character, 16) else {
             return false;
         };
-        put_number(frame, i * 4, 4, u64::from(four));
+        let _ = put_number(frame, i * 4, 4, u64::from(four));
     }
     true
 }

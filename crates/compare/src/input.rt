@@ -12,26 +12,19 @@ pub(crate) fn is_next(character: u8) -> bool {
     next_character() == Some(character)
 }
 
-// The digit's value; none where it is no digit.
-pub(crate) fn digit(character: u8) -> Option<u8> {
-    match character {
-        b'0'..=b'9' => Some(character - b'0'),
-        _ => None,
-    }
-}
-
-// The value of a digit of sixteen.
-pub(crate) fn hex_digit(character: u8) -> Option<u8> {
-    match character {
-        b'0'..=b'9' => Some(character - b'0'),
-        b'a'..=b'f' => Some(character - b'a' + 10),
-        _ => None,
-    }
+// The value of a digit to this base, 16 at most; none where it is no such digit.
+pub(crate) fn digit(character: u8, base: u8) -> Option<u8> {
+    let value = match character {
+        b'0'..=b'9' => character - b'0',
+        b'a'..=b'f' => character - b'a' + 10,
+        _ => return None,
+    };
+    if value < base { Some(value) } else { None }
 }
 
 // The number and one digit more behind it.
 fn with_digit(number: Option<usize>, character: Option<u8>) -> Option<usize> {
-    let value = digit(character?)?;
+    let value = digit(character?, 10)?;
     number?.checked_mul(10)?.checked_add(usize::from(value))
 }
 

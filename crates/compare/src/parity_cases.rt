@@ -3,22 +3,14 @@ ghost use Rattle.std.specs.Prelude.{◌≤◌};
 
 use super::bytes::{copy_first, read_bits};
 use super::input::read_number;
-use super::told::{DONE, Refused, Told, is_told};
+use super::told::{DONE, Told};
 use parity::equations::first_unmet;
 use parity::fill::fill_parity;
 use tables::matrix::Subframe;
-use words::refusal::{EQUATION_2, EQUATION_3};
-
-pub(crate) fn filled_two_agrees() -> bool {
-    filled_agrees::<1200>(Subframe::Two)
-}
-
-pub(crate) fn filled_three_agrees() -> bool {
-    filled_agrees::<548>(Subframe::Three)
-}
+use words::refusal::Rule;
 
 // The first half of a block is its data. It is lent with ones in the other, so its parity is wrong until the library fills it.
-fn filled_agrees<const N: usize>(subframe: Subframe) -> bool
+pub(crate) fn filled_agrees<const N: usize>(subframe: Subframe) -> bool
     requires { N ≤ 1200 }
 {
     let mut expected = [0u8; N];
@@ -26,31 +18,23 @@ fn filled_agrees<const N: usize>(subframe: Subframe) -> bool
     let is_read = read_bits(&mut expected, 1, b'\n');
     copy_first(&expected[..N / 2], &mut block);
     let answer = fill_parity(subframe, &mut block);
-    is_read && is_told(answer, DONE) && block == expected
+    is_read && answer.is_ok() && block == expected
 }
 
-pub(crate) fn unmet_two_agrees() -> bool {
-    unmet_agrees::<1200>(Subframe::Two, EQUATION_2 as usize)
-}
-
-pub(crate) fn unmet_three_agrees() -> bool {
-    unmet_agrees::<548>(Subframe::Three, EQUATION_3 as usize)
-}
-
-fn unmet_agrees<const N: usize>(subframe: Subframe, number: usize) -> bool
+pub(crate) fn unmet_agrees<const N: usize>(subframe: Subframe, rule: Rule) -> bool
     requires { N ≤ 1200 }
 {
     let mut block = [0u8; N];
     let place = read_number(4, b' ');
     let is_read = read_bits(&mut block, 1, b'\n');
     let answer = first_unmet(subframe, &block);
-    is_read && is_told(answer, unmet(number, place))
+    is_read && unmet(rule, place) == Some(answer)
 }
 
-// Place 0 stands for no refusal, and every other for one with that number.
-fn unmet(number: usize, place: Option<usize>) -> Told {
+// Place 0 stands for no refusal, and every other for one by that rule.
+fn unmet(rule: Rule, place: Option<usize>) -> Told {
     match place? {
         0 => DONE,
-        place => Some(Err(Refused { number, place })),
+        place => Some(Err(rule.at(place))),
     }
 }

@@ -1,6 +1,6 @@
 // The cases of the programs: what the bench program prints, and what reading back prints.
 use super::base::{Base, Desk};
-use super::bytes::{are_then, copy_first, first_bytes, first_told, set_places, with_byte};
+use super::bytes::{are_then, copy_first, first_bytes, first_told, set_byte, set_places};
 use super::contents::read_symbols;
 use super::input::read_number;
 use super::texts::read_text;
@@ -51,11 +51,11 @@ pub(crate) fn readback_agrees(base: &Base, desk: &mut Desk) -> bool {
 
 // The characters of a frame, a newline, and a character 0.
 fn write_characters(frame: &[u8; 1800], text: &mut [u8]) {
-    for (i, &symbol) in frame.iter().enumerate() {
-        with_byte(text, i, character(symbol));
+    for (place, &symbol) in text.iter_mut().zip(frame.iter()) {
+        *place = character(symbol);
     }
-    with_byte(text, 1800, b'\n');
-    with_byte(text, 1801, b'0');
+    set_byte(text, 1800, b'\n');
+    set_byte(text, 1801, b'0');
 }
 
 fn character(symbol: u8) -> u8 {

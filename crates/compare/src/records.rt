@@ -58,11 +58,7 @@ impl Record {
     }
 
     pub(crate) fn is_page(&self, page: &Page) -> bool {
-        page.prn == self.prn
-            && page.number == self.number
-            && is_kind(self.kind, page.kind)
-            && page.counts == self.counts
-            && page.bits == self.bits
+        self.kind == Some(page.kind) && self.page() == *page
     }
 }
 
@@ -74,13 +70,6 @@ fn read_kind() -> Option<Kind> {
         6 => Some(Kind::Six),
         _ => None,
     }
-}
-
-fn is_kind(told: Option<Kind>, kind: Kind) -> bool {
-    matches!(
-        (told, kind),
-        (Some(Kind::One), Kind::One) | (Some(Kind::Six), Kind::Six) | (Some(Kind::Bare), Kind::Bare)
-    )
 }
 
 // How many counts a kind uses.

@@ -1,17 +1,13 @@
 // The cases of sheets that are written, which set the base text, and of sheets that are read.
 use super::base::Base;
-use super::bytes::{are_then, copy_first, first_bytes, first_told};
+use super::bytes::{GARBAGE, are_then, copy_first, first_bytes, first_told};
 use super::contents::read_counts;
 use super::input::read_number;
 use super::texts::read_text;
-use super::told::{DONE, Told, is_told, read_told, tells_done};
-use sheets::sheet::{before_sheet, read_sheet};
+use super::told::{DONE, Told, read_told, told_or_zeros};
+use sheets::sheet::{Sheet, before_sheet, read_sheet};
 use sheets::trailer::sheet_start;
 use sheets::write::write_sheet;
-use show::is_done;
-
-// What bytes hold that are lent to be written in.
-const GARBAGE: u8 = 7;
 
 // ---- writing
 
@@ -24,7 +20,7 @@ pub(crate) fn sheet_written_agrees(base: &mut Base, text: &mut [u8]) -> bool {
     let size = read_number(4, b' ');
     let count = read_text(&base.text, text, b'\n');
     let expected = first_told(text, count);
-    if tells_done(told) {
+    if told == DONE {
         base.numbers = numbers;
         copy_first(expected, &mut base.text);
     }
@@ -46,13 +42,9 @@ fn first_written_agree(
     told: Told,
     size: usize,
 ) -> bool {
-    match room {
-        Some(room) if room <= out.len() => {
-            let written = write_sheet(numbers, &mut out[..room]);
-            let answer = written.answer;
-            is_told(answer, told) && written.size == size
-        }
-        _ => false,
+    match room.and_then(|room| out.get_mut(..room)) {
+        Some(lent) => told_or_zeros(told, size, 0) == Some(write_sheet(numbers, lent)),
+        None => false,
     }
 }
 
@@ -70,31 +62,28 @@ pub(crate) fn sheet_read_agrees(base: &Base, text: &mut [u8]) -> bool {
     }
 }
 
-fn reading_agrees(bytes: &[u8], told: Told, start: usize, base_numbers: &[i64; 34]) -> bool {
-    if sheet_start(bytes) != start {
-        return false;
-    }
-    if tells_done(told) {
-        return sheet_agrees(bytes, told, start, base_numbers) && again_agrees(base_numbers);
-    }
-    let zeros = [0i64; 34];
-    sheet_agrees(bytes, told, 0, &zeros)
+fn reading_agrees(bytes: &[u8], told: Told, start: usize, numbers: &[i64; 34]) -> bool {
+    let is_told = match told {
+        Some(Ok(())) => is_read(bytes, start, numbers) && is_read_again(numbers),
+        Some(Err(refusal)) => read_sheet(bytes) == Err(refusal) && before_sheet(bytes).is_empty(),
+        None => false,
+    };
+    is_told && sheet_start(bytes) == start
 }
 
-fn sheet_agrees(bytes: &[u8], told: Told, before: usize, expected: &[i64; 34]) -> bool {
-    let sheet = read_sheet(bytes);
-    let answer = sheet.answer;
-    let numbers = sheet.numbers;
-    is_told(answer, told)
-        && sheet.before == before
-        && numbers == *expected
-        && before_sheet(bytes) == first_bytes(bytes, before)
+fn is_read(bytes: &[u8], before: usize, numbers: &[i64; 34]) -> bool {
+    let sheet = Sheet {
+        numbers: *numbers,
+        before,
+    };
+    read_sheet(bytes) == Ok(sheet) && before_sheet(bytes) == first_bytes(bytes, before)
 }
 
 // The numbers written, and read again.
-fn again_agrees(numbers: &[i64; 34]) -> bool {
+fn is_read_again(numbers: &[i64; 34]) -> bool {
     let mut sheet = [GARBAGE; 800];
-    let written = write_sheet(numbers, &mut sheet);
-    let answer = written.answer;
-    is_done(answer) && sheet_agrees(first_bytes(&sheet, written.size), DONE, 0, numbers)
+    match write_sheet(numbers, &mut sheet) {
+        Ok(size) => is_read(first_bytes(&sheet, size), 0, numbers),
+        Err(_) => false,
+    }
 }

@@ -1,6 +1,6 @@
 // Texts, as the second program writes them.
-use super::bytes::{copy_first, with_byte};
-use super::input::{hex_digit, next_character, read_number};
+use super::bytes::copy_first;
+use super::input::{digit, next_character, read_number};
 
 // More pieces than any text has.
 const MOST_PIECES: usize = 10000;
@@ -31,7 +31,7 @@ fn with_piece(
         with_bytes(text, at?, part?)
     } else {
         let byte = byte_of(character?);
-        with_byte(text, at?, byte?)
+        with_bytes(text, at?, &[byte?])
     }
 }
 
@@ -66,5 +66,5 @@ fn byte_of(character: u8) -> Option<u8> {
 fn escaped_byte() -> Option<u8> {
     let high = next_character();
     let low = next_character();
-    Some(hex_digit(high?)? << 4 | hex_digit(low?)?)
+    Some(digit(high?, 16)? << 4 | digit(low?, 16)?)
 }

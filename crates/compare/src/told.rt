@@ -1,16 +1,9 @@
 // The answers that the second program tells.
 use super::input::read_number;
-use words::refusal::Answer;
-
-// A refusal's number and place.
-#[derive(Clone, Copy, PartialEq, Eq)]
-pub(crate) struct Refused {
-    pub(crate) number: usize,
-    pub(crate) place: usize,
-}
+use words::refusal::Refusal;
 
 // That it is done, or what is refused; none where the characters tell of neither.
-pub(crate) type Told = Option<Result<(), Refused>>;
+pub(crate) type Told = Option<Result<(), Refusal>>;
 
 pub(crate) const DONE: Told = Some(Ok(()));
 
@@ -21,24 +14,30 @@ pub(crate) fn read_told(end: u8) -> Told {
     match (number?, place?) {
         (0, 0) => DONE,
         (0, _) => None,
-        (number, place) => Some(Err(Refused { number, place })),
+        (number, place) => Some(Err(Refusal {
+            number: u8::try_from(number).ok()?,
+            place,
+        })),
     }
 }
 
-pub(crate) fn tells_done(told: Told) -> bool {
-    told == DONE
+// What is told of a call: that it gives this value, or what is refused.
+pub(crate) fn told_with<T: Copy>(told: Told, value: T) -> Option<Result<T, Refusal>> {
+    match told? {
+        Ok(()) => Some(Ok(value)),
+        Err(refusal) => Some(Err(refusal)),
+    }
 }
 
-// Whether the answer is the one told.
-pub(crate) fn is_told(answer: Answer, told: Told) -> bool {
-    match answer {
-        Answer::Done => tells_done(told),
-        Answer::Refused(r) => {
-            let refused = Refused {
-                number: r.number as usize,
-                place: r.place,
-            };
-            told == Some(Err(refused))
-        }
+// The same where a value is told beside a refusal too: it has to be zeros there.
+pub(crate) fn told_or_zeros<T: Copy + PartialEq>(
+    told: Told,
+    value: T,
+    zeros: T,
+) -> Option<Result<T, Refusal>> {
+    if told == DONE || value == zeros {
+        told_with(told, value)
+    } else {
+        None
     }
 }

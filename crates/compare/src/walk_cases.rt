@@ -3,11 +3,13 @@ use super::bytes::first_bytes;
 use super::contents::read_counts;
 use super::input::read_number;
 use super::texts::read_text;
-use super::told::{Told, is_told, read_told};
-use sheets::walk::walk_back;
+use super::told::{DONE, Told, read_told};
+use sheets::sheet::Sheet;
+use sheets::walk::{Walk, walk_back};
+use words::refusal::Refusal;
 
 // A step as the second program tells of it; none where the characters tell of no such thing.
-#[derive(Clone, Copy)]
+#[derive(Clone, Copy, PartialEq, Eq)]
 struct ToldStep {
     finished: Option<bool>,
     numbers: Option<[i64; 34]>,
@@ -70,13 +72,27 @@ fn read_numbers() -> Option<[i64; 34]> {
 }
 
 fn step_agrees(bytes: &[u8], from: usize, expected: &ToldStep) -> bool {
-    let step = walk_back(bytes, from);
-    let answer = step.answer;
-    let numbers = step.numbers;
-    Some(step.finished) == expected.finished
-        && is_told(answer, expected.told)
-        && step.place == expected.place
-        && Some(numbers) == expected.numbers
+    let mut walk = Walk { bytes, place: from };
+    walk.next();
+    told_step(walk_back(bytes, from), walk.place) == *expected
+}
+
+// How a step is told, and the place where the walk goes on. Zeros are told where no sheet is read.
+fn told_step(step: Option<Result<Sheet, Refusal>>, place: usize) -> ToldStep {
+    let (told, numbers) = match step {
+        None => (DONE, [0i64; 34]),
+        Some(Ok(sheet)) => {
+            let numbers = sheet.numbers;
+            (DONE, numbers)
+        }
+        Some(Err(refusal)) => (Some(Err(refusal)), [0i64; 34]),
+    };
+    ToldStep {
+        finished: Some(step.is_none()),
+        numbers: Some(numbers),
+        told,
+        place,
+    }
 }
 
 fn read_finished() -> Option<bool> {

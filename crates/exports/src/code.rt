@@ -11,5 +11,5 @@ pub(crate) const HALF: u64 = 4294967296;
 pub(crate) fn refusal_code(refusal: Refusal) -> u64
     ensures { result ≡ refusal_code refusal.number refusal.place }
 {
-    refusal.number as u64 * HALF + refusal.place as u64 % HALF
+    u64::from(refusal.number) * HALF + refusal.place as u64 % HALF
 }

@@ -7,8 +7,9 @@ ghost use Rattle.exports.specs.Code.{code_of};
 ghost use Rattle.exports.specs.Calls.{build_call, build_call_frame, read_call, read_call_numbers, read_call_page, time_call, time_call_time, subframe2_call, subframe2_call_counts, subframe3_call, subframe3_call_page};
 
 use super::code::refusal_code;
-use super::lent::{LISTED, put_numbers, toi_of};
+use super::lent::{put_numbers, toi_of};
 use frames::build::build;
+use sheets::list::LISTED;
 use frames::read::{read, read_subframe2, read_subframe3, read_time};
 use words::refusal::Rule;
 

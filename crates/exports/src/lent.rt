@@ -4,9 +4,6 @@ ghost use Rattle.exports.specs.Calls.{toi_of};
 
 use words::time::LAST_TOI;
 
-// A time and 33 counts.
-pub(crate) const LISTED: usize = 34;
-
 // The time that a number is; 400, which is no time, for a number that is none from 0 to 399.
 pub(crate) fn toi_of(number: i64) -> u16
     ensures { result ≡ toi_of number }
@@ -19,6 +16,6 @@ pub(crate) fn put_numbers(toi: u16, counts: &[i64], into: &mut [i64])
     requires { length (pos toi ∷ counts.now) ≡ length into.old }
     ensures { into.new ≡ pos toi ∷ counts.now }
 {
-    into[0] = toi as i64;
+    into[0] = i64::from(toi);
     into[1..].copy_from_slice(counts);
 }

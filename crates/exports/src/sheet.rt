@@ -8,7 +8,7 @@ ghost use Rattle.exports.specs.Code.{HALF, code_of};
 ghost use Rattle.exports.specs.Calls.{sheet_call, sheet_call_numbers};
 
 use super::code::{HALF, refusal_code};
-use super::lent::LISTED;
+use sheets::list::LISTED;
 use sheets::sheet::read_sheet;
 use sheets::write::write_sheet;
 use words::refusal::Rule;

@@ -2,11 +2,11 @@
 ghost use Rattle.std.specs.Prelude.{◌≡◌, ◌++◌, ◌+◌, ◌≤◌, ◌<◌, length, drop};
 ghost use Rattle.words.specs.Bits.{bits_of};
 ghost use Rattle.words.specs.Refusal.{Done};
-ghost use Rattle.fields.specs.Table.{fields_in, bit_count};
+ghost use Rattle.fields.specs.Table.{bit_count};
 ghost use Rattle.fields.specs.Pages.{PAGE_BITS, HEAD_BITS, BODY_BITS, PAGE_COUNTS, prn_in, number_in, kind_of, table_of, page_fields, counts_answer3, range_answer, page_answer, record_of, page_taken, is_own, fields_answer3, page_from, used_counts, used_bits, put_page_answer, put_page_bytes};
 
 use super::table::{Table, bit_count, field_count};
-use words::bits::{first_not_bit, put_number, take_number};
+use words::bits::{judge_bits, put_number, take_number};
 use words::refusal::{Refusal, Rule};
 
 // The page bits: PRN and page number before the body, and the body.
@@ -207,10 +207,7 @@ pub fn judge_page(bits: &[u8]) -> Result<(), Refusal>
     if bits.len() != PAGE_BITS {
         return Err(Rule::Length.at(0));
     }
-    let bad = first_not_bit(bits);
-    if bad != bits.len() {
-        return Err(Rule::NotABit.at(bad));
-    }
+    judge_bits(bits)?;
     judge_fields(bits)
 }
 
@@ -278,11 +275,7 @@ pub fn put_page(page: Page, bits: &mut [u8]) -> Result<(), Refusal>
     if bits.len() != PAGE_BITS {
         return Err(Rule::Length.at(0));
     }
-    let carried = page.used_bits();
-    let bad = first_not_bit(carried);
-    if bad != carried.len() {
-        return Err(Rule::NotABit.at(bad));
-    }
+    judge_bits(page.used_bits())?;
     judge_record(&page)?;
     write_page(&page, bits);
     Ok(())

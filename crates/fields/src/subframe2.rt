@@ -7,7 +7,7 @@ ghost use Rattle.fields.specs.Subframe2.{BITS_2, fields_answer, fields_read, cou
 ghost use Rattle.fields.specs.declared.table.Table.TheVariants.{Subframe2};
 
 use super::table::{Table, bit_count};
-use words::bits::{first_not_bit, put_number, take_number};
+use words::bits::{judge_bits, put_number, take_number};
 use words::refusal::{Refusal, Rule};
 
 // Where each field's count stands among the 33.
@@ -99,10 +99,7 @@ pub fn read_fields(bits: &[u8]) -> Result<[i64; 33], Refusal>
     if bits.len() != 576 {
         return Err(Rule::Length.at(0));
     }
-    let bad = first_not_bit(bits);
-    if bad != bits.len() {
-        return Err(Rule::NotABit.at(bad));
-    }
+    judge_bits(bits)?;
     judged_fields(bits)
 }
 

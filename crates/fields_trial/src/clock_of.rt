@@ -8,7 +8,7 @@ fn terms(text: &[u8], taken: Result<Clock, Refusal>, af0: f64, af1: f64, af2: f6
     done(text, &taken);
     expected(
         b"  and these are the terms",
-        matches!(taken, Ok(clock) if clock.af0 == af0 && clock.af1 == af1 && clock.af2 == af2),
+        taken == Ok(Clock { af0, af1, af2 }),
     );
 }
 
@@ -47,53 +47,50 @@ pub(crate) fn ends() {
 }
 
 // One divided by plus zero has no end above.
-fn is_plus_zero(x: f64) -> bool {
-    x == 0.0 && 1.0 / x > 0.0
-}
-
-fn are_plus_zeros(clock: Clock) -> bool {
-    is_plus_zero(clock.af0) && is_plus_zero(clock.af1) && is_plus_zero(clock.af2)
-}
-
 pub(crate) fn zeros() {
     expected(
         b"clock_of 0, 0 and 0 is done: plus zeros",
-        matches!(clock_of(0, 0, 0), Ok(clock) if are_plus_zeros(clock)),
+        clock_of(0, 0, 0).is_ok_and(|clock| {
+            [clock.af0, clock.af1, clock.af2]
+                .iter()
+                .all(|&term| term == 0.0 && 1.0 / term > 0.0)
+        }),
     );
-}
-
-fn too_large_at(text: &[u8], taken: Result<Clock, Refusal>, place: usize) {
-    refused(text, &taken, 6, place);
 }
 
 pub(crate) fn too_large() {
-    too_large_at(
+    refused(
         b"af0 33554432 is refused 6 at 471, with plus zeros",
-        clock_of(33554432, 0, 0),
+        &clock_of(33554432, 0, 0),
+        6,
         471,
     );
-    too_large_at(b"af0 -33554433 too", clock_of(-33554433, 1, 1), 471);
-    too_large_at(
+    refused(b"af0 -33554433 too", &clock_of(-33554433, 1, 1), 6, 471);
+    refused(
         b"the least of all, three times, too",
-        clock_of(i64::MIN, i64::MIN, i64::MIN),
+        &clock_of(i64::MIN, i64::MIN, i64::MIN),
+        6,
         471,
     );
-    too_large_at(
+    refused(
         b"af1 524288 is refused 6 at 497",
-        clock_of(1, 524288, 512),
+        &clock_of(1, 524288, 512),
+        6,
         497,
     );
-    too_large_at(b"af1 -524289 too", clock_of(1, -524289, 1), 497);
-    too_large_at(
+    refused(b"af1 -524289 too", &clock_of(1, -524289, 1), 6, 497);
+    refused(
         b"the most of all behind a good af0 too",
-        clock_of(1, i64::MAX, i64::MAX),
+        &clock_of(1, i64::MAX, i64::MAX),
+        6,
         497,
     );
-    too_large_at(b"af2 512 is refused 6 at 517", clock_of(1, 1, 512), 517);
-    too_large_at(b"af2 -513 too", clock_of(1, 1, -513), 517);
-    too_large_at(
+    refused(b"af2 512 is refused 6 at 517", &clock_of(1, 1, 512), 6, 517);
+    refused(b"af2 -513 too", &clock_of(1, 1, -513), 6, 517);
+    refused(
         b"the most of all behind two good ones too",
-        clock_of(0, 0, i64::MAX),
+        &clock_of(0, 0, i64::MAX),
+        6,
         517,
     );
 }

@@ -37,7 +37,6 @@ fn of_subframe2() {
     read_fields::known();
     read_fields::reserved();
     write_fields::lengths();
-    write_fields::other_bits();
     write_fields::known();
     write_fields::extreme();
     write_fields::negative();

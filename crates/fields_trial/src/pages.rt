@@ -110,18 +110,13 @@ fn zero_page(prn: u8, number: u8, kind: Kind) -> Page {
 }
 
 // PRN 255, A0 with its first bit set, DN 3, the first bit behind the fields set.
-fn bits_of_one() -> [u8; 250] {
+pub(crate) fn taken_one() {
     let mut bits = [0u8; 250];
+    let mut page = zero_page(255, 1, Kind::One);
     put_number(&mut bits, 0, 14, 16321).unwrap();
     put_number(&mut bits, 14, 16, 32768).unwrap();
     put_number(&mut bits, 100, 4, 3).unwrap();
     put_number(&mut bits, 176, 1, 1).unwrap();
-    bits
-}
-
-pub(crate) fn taken_one() {
-    let bits = bits_of_one();
-    let mut page = zero_page(255, 1, Kind::One);
     page.counts[A0] = -32768;
     page.counts[DN] = 3;
     page.bits[0] = 1;
@@ -135,18 +130,13 @@ pub(crate) fn taken_one() {
 }
 
 // The text page 9, the first byte 65, the last 255.
-fn bits_of_six() -> [u8; 250] {
+pub(crate) fn taken_six() {
     let mut bits = [0u8; 250];
+    let mut page = zero_page(0, 6, Kind::Six);
     put_number(&mut bits, 8, 6, 6).unwrap();
     put_number(&mut bits, 14, 4, 9).unwrap();
     put_number(&mut bits, 18, 8, 65).unwrap();
     put_number(&mut bits, 242, 8, 255).unwrap();
-    bits
-}
-
-pub(crate) fn taken_six() {
-    let bits = bits_of_six();
-    let mut page = zero_page(0, 6, Kind::Six);
     page.counts[TEXT_PAGE] = 9;
     page.counts[TEXT] = 65;
     page.counts[29] = 255;

@@ -1,7 +1,7 @@
 // What the function `put_page` of `fields::pages` refuses, and what it does not look at.
 ghost use Rattle.std.specs.Prelude.{◌≤◌};
 
-use fields::pages::{A0, DN, Kind, Page, TEXT_PAGE, TOT, put_page};
+use fields::pages::{A0, BETA3, DN, Kind, Page, TEXT, TEXT_PAGE, TOT, put_page};
 use show::{done, expected, refused};
 
 // Counts that are DN 1, and one other; the body's bits are zeros but one byte.
@@ -9,11 +9,11 @@ fn page_with(kind: Kind, number: u8, k: usize, count: i64, at: usize, byte: u8) 
     let mut counts = [0i64; 30];
     let mut bits = [0u8; 236];
     counts[DN] = 1;
-    if k < 30 {
-        counts[k] = count;
+    if let Some(other) = counts.get_mut(k) {
+        *other = count;
     }
-    if at < 236 {
-        bits[at] = byte;
+    if let Some(bit) = bits.get_mut(at) {
+        *bit = byte;
     }
     Page {
         prn: 255,
@@ -24,30 +24,29 @@ fn page_with(kind: Kind, number: u8, k: usize, count: i64, at: usize, byte: u8) 
     }
 }
 
-// Refused, and the bytes stay.
-fn stays(text: &[u8], page: Page, number: u8, place: usize) {
-    let mut bits = [9u8; 250];
+// Into as many bytes: refused, and they stay.
+// It calls `put_page` itself: a closure of that call at each place below would be no plainer.
+fn stays_in<const N: usize>(text: &[u8], page: Page, number: u8, place: usize)
+    requires { N ≤ 251 }
+{
+    let mut bits = [9u8; N];
     refused(text, &put_page(page, &mut bits), number, place);
-    expected(b"  and the bytes stay", bits == [9; 250]);
+    expected(b"  and the bytes stay", bits == [9; N]);
+}
+
+fn stays(text: &[u8], page: Page, number: u8, place: usize) {
+    stays_in::<250>(text, page, number, place);
 }
 
 fn bare(number: u8) -> Page {
     page_with(Kind::Bare, number, 0, 0, 0, 1)
 }
 
-fn length<const N: usize>(text: &[u8])
-    requires { N ≤ 251 }
-{
-    let mut bits = [9u8; N];
-    refused(text, &put_page(bare(255), &mut bits), 1, 0);
-    expected(b"  and the bytes stay", bits == [9; N]);
-}
-
 // A wrong length comes before a wrong page number.
 pub(crate) fn lengths() {
-    length::<0>(b"put_page into nothing is refused 1 at 0");
-    length::<249>(b"  into 249 bytes too");
-    length::<251>(b"  into 251 too");
+    stays_in::<0>(b"put_page into nothing is refused 1 at 0", bare(255), 1, 0);
+    stays_in::<249>(b"  into 249 bytes too", bare(255), 1, 0);
+    stays_in::<251>(b"  into 251 too", bare(255), 1, 0);
 }
 
 pub(crate) fn no_bits() {
@@ -96,25 +95,29 @@ pub(crate) fn numbers() {
     );
 }
 
-fn one(k: usize, count: i64) -> Page {
-    page_with(Kind::One, 1, k, count, 0, 0)
-}
-
-fn six(k: usize, count: i64) -> Page {
-    page_with(Kind::Six, 6, k, count, 0, 0)
+// One count, and it is refused 9.
+fn out_of_range(text: &[u8], kind: Kind, number: u8, k: usize, count: i64, place: usize) {
+    stays(text, page_with(kind, number, k, count, 0, 0), 9, place);
 }
 
 pub(crate) fn ranges() {
-    stays(b"A0 32768 is refused 9 at 15", one(A0, 32768), 9, 15);
-    stays(b"A0 the least of all too", one(A0, i64::MIN), 9, 15);
-    stays(b"tot 37800 9 at 59", one(TOT, 37800), 9, 59);
-    stays(b"tot -1 too", one(TOT, -1), 9, 59);
-    stays(b"DN 0 9 at 101", one(DN, 0), 9, 101);
-    stays(b"DN 8 too", one(DN, 8), 9, 101);
-    stays(b"beta3 128 9 at 169", one(16, 128), 9, 169);
-    stays(b"text page 16 9 at 15", six(TEXT_PAGE, 16), 9, 15);
-    stays(b"a first byte of text 256 9 at 19", six(1, 256), 9, 19);
-    stays(b"a last one of -1 9 at 243", six(29, -1), 9, 243);
+    out_of_range(b"A0 32768 is refused 9 at 15", Kind::One, 1, A0, 32768, 15);
+    out_of_range(b"A0 the least of all too", Kind::One, 1, A0, i64::MIN, 15);
+    out_of_range(b"tot 37800 9 at 59", Kind::One, 1, TOT, 37800, 59);
+    out_of_range(b"tot -1 too", Kind::One, 1, TOT, -1, 59);
+    out_of_range(b"DN 0 9 at 101", Kind::One, 1, DN, 0, 101);
+    out_of_range(b"DN 8 too", Kind::One, 1, DN, 8, 101);
+    out_of_range(b"beta3 128 9 at 169", Kind::One, 1, BETA3, 128, 169);
+    out_of_range(b"text page 16 9 at 15", Kind::Six, 6, TEXT_PAGE, 16, 15);
+    out_of_range(
+        b"a first byte of text 256 9 at 19",
+        Kind::Six,
+        6,
+        TEXT,
+        256,
+        19,
+    );
+    out_of_range(b"a last one of -1 9 at 243", Kind::Six, 6, 29, -1, 243);
 }
 
 fn is_put(text: &[u8], page: Page) {

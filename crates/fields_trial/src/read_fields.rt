@@ -6,10 +6,6 @@ use show::{done, expected, refused};
 use words::bits::put_number;
 use words::refusal::refuse;
 
-fn not_read(text: &[u8], bits: &[u8], number: u8, place: usize) {
-    refused(text, &read_fields(bits), number, place);
-}
-
 pub(crate) fn no_fields_at_all() {
     refused(
         b"no_fields(0, 0) is that refusal, with zeros",
@@ -27,23 +23,38 @@ pub(crate) fn no_fields_at_all() {
 
 pub(crate) fn lengths() {
     let garbage = [255u8; 577];
-    not_read(
+    refused(
         b"read_fields of nothing is refused 1 at 0, with zeros",
-        &garbage[0..0],
+        &read_fields(&garbage[0..0]),
         1,
         0,
     );
-    not_read(b"  of 575 bytes too", &garbage[0..575], 1, 0);
-    not_read(b"  of 577 too", &garbage, 1, 0);
-    not_read(b"  of 576 bytes of garbage 2 at 0", &garbage[0..576], 2, 0);
+    refused(b"  of 575 bytes too", &read_fields(&garbage[0..575]), 1, 0);
+    refused(b"  of 577 too", &read_fields(&garbage), 1, 0);
+    refused(
+        b"  of 576 bytes of garbage 2 at 0",
+        &read_fields(&garbage[0..576]),
+        2,
+        0,
+    );
 }
 
 pub(crate) fn no_bits() {
     let ones = [1u8; 576];
     let mut bits = [0u8; 576];
-    not_read(b"read_fields of 576 ones is refused 6 at 14", &ones, 6, 14);
+    refused(
+        b"read_fields of 576 ones is refused 6 at 14",
+        &read_fields(&ones),
+        6,
+        14,
+    );
     bits[575] = 2;
-    not_read(b"  with a last byte 2, 2 at 575", &bits, 2, 575);
+    refused(
+        b"  with a last byte 2, 2 at 575",
+        &read_fields(&bits),
+        2,
+        575,
+    );
 }
 
 // Zeros, with a number in its place.
@@ -53,13 +64,19 @@ fn with_number(text: &[u8], at: usize, width: usize, number: u64) -> [u8; 576] {
     bits
 }
 
-// Read as zeros with one other count.
-fn count_read(text: &[u8], bits: &[u8], k: usize, count: i64)
+// Zeros with one other count.
+pub(crate) fn with_count(k: usize, count: i64) -> [i64; 33]
     requires { k < 33 }
 {
     let mut counts = [0i64; 33];
     counts[k] = count;
-    expected(text, read_fields(bits) == Ok(counts));
+    counts
+}
+
+fn count_read(text: &[u8], bits: &[u8], k: usize, count: i64)
+    requires { k < 33 }
+{
+    expected(text, read_fields(bits) == Ok(with_count(k, count)));
 }
 
 pub(crate) fn known() {
@@ -69,9 +86,9 @@ pub(crate) fn known() {
         ITOW,
         83,
     );
-    not_read(
+    refused(
         b"  read_fields refuses it, 6 at 14",
-        &with_number(b"itow 84 is put", 13, 8, 84),
+        &read_fields(&with_number(b"itow 84 is put", 13, 8, 84)),
         6,
         14,
     );
@@ -81,24 +98,24 @@ pub(crate) fn known() {
         TOE,
         2015,
     );
-    not_read(
+    refused(
         b"  read_fields refuses it, 6 at 39",
-        &with_number(b"toe 2016 is put", 38, 11, 2016),
+        &read_fields(&with_number(b"toe 2016 is put", 38, 11, 2016)),
         6,
         39,
     );
 }
 
 pub(crate) fn reserved() {
-    not_read(
+    refused(
         b"  read_fields refuses it, 6 at 567",
-        &with_number(b"bit 567 is put", 566, 1, 1),
+        &read_fields(&with_number(b"bit 567 is put", 566, 1, 1)),
         6,
         567,
     );
-    not_read(
+    refused(
         b"  read_fields refuses it, 6 at 567",
-        &with_number(b"bit 576 is put", 575, 1, 1),
+        &read_fields(&with_number(b"bit 576 is put", 575, 1, 1)),
         6,
         567,
     );

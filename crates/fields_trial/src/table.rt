@@ -25,64 +25,94 @@ pub(crate) fn sizes() {
     size(b"no fields have no bits", Table::NoFields, 0, 0);
 }
 
-fn unsigned(text: &[u8], field: Field, width: usize, least: u64, most: u64) {
-    let row = Field {
+fn row(width: usize, signed: bool, least: u64, most: u64) -> Field {
+    Field {
         width,
-        signed: false,
+        signed,
         least,
         most,
-    };
-    expected(text, field == row);
+    }
 }
 
-fn signed(text: &[u8], field: Field, width: usize, most: u64) {
-    let row = Field {
-        width,
-        signed: true,
-        least: 0,
-        most,
-    };
-    expected(text, field == row);
-}
-
-fn two(k: usize) -> Field {
-    field_at(Table::Subframe2, k)
+fn has_row(text: &[u8], table: Table, k: usize, row: Field) {
+    expected(text, field_at(table, k) == row);
 }
 
 pub(crate) fn rows_of_subframe2() {
-    unsigned(b"wn has 13 bits, to 8191", two(0), 13, 0, 8191);
-    unsigned(b"itow has 8 bits, to 83", two(ITOW), 8, 0, 83);
-    unsigned(b"toe has 11 bits, to 2015", two(TOE), 11, 0, 2015);
-    unsigned(
-        b"ecc has 33 bits, to 8589934591",
-        two(ECC),
-        33,
+    has_row(
+        b"wn has 13 bits, to 8191",
+        Table::Subframe2,
         0,
-        8589934591,
+        row(13, false, 0, 8191),
     );
-    signed(b"tgd has 13 bits and a sign", two(TGD), 13, 4095);
-    unsigned(b"isf has 1 bit", two(ISF), 1, 0, 1);
-}
-
-fn of_page1(k: usize) -> Field {
-    field_at(Table::Page1, k)
-}
-
-fn of_page6(k: usize) -> Field {
-    field_at(Table::Page6, k)
+    has_row(
+        b"itow has 8 bits, to 83",
+        Table::Subframe2,
+        ITOW,
+        row(8, false, 0, 83),
+    );
+    has_row(
+        b"toe has 11 bits, to 2015",
+        Table::Subframe2,
+        TOE,
+        row(11, false, 0, 2015),
+    );
+    has_row(
+        b"ecc has 33 bits, to 8589934591",
+        Table::Subframe2,
+        ECC,
+        row(33, false, 0, 8589934591),
+    );
+    has_row(
+        b"tgd has 13 bits and a sign",
+        Table::Subframe2,
+        TGD,
+        row(13, true, 0, 4095),
+    );
+    has_row(b"isf has 1 bit", Table::Subframe2, ISF, row(1, false, 0, 1));
 }
 
 pub(crate) fn rows_of_pages() {
-    signed(b"A0 has 16 bits and a sign", of_page1(0), 16, 32767);
-    unsigned(b"tot has 16 bits, to 37799", of_page1(TOT), 16, 0, 37799);
-    unsigned(b"DN has 4 bits, 1 to 7", of_page1(DN), 4, 1, 7);
-    unsigned(b"the text page has 4 bits", of_page6(TEXT_PAGE), 4, 0, 15);
-    unsigned(b"the first byte of text has 8", of_page6(TEXT), 8, 0, 255);
-    unsigned(b"and so has the last", of_page6(29), 8, 0, 255);
+    has_row(
+        b"A0 has 16 bits and a sign",
+        Table::Page1,
+        0,
+        row(16, true, 0, 32767),
+    );
+    has_row(
+        b"tot has 16 bits, to 37799",
+        Table::Page1,
+        TOT,
+        row(16, false, 0, 37799),
+    );
+    has_row(
+        b"DN has 4 bits, 1 to 7",
+        Table::Page1,
+        DN,
+        row(4, false, 1, 7),
+    );
+    has_row(
+        b"the text page has 4 bits",
+        Table::Page6,
+        TEXT_PAGE,
+        row(4, false, 0, 15),
+    );
+    has_row(
+        b"the first byte of text has 8",
+        Table::Page6,
+        TEXT,
+        row(8, false, 0, 255),
+    );
+    has_row(
+        b"and so has the last",
+        Table::Page6,
+        29,
+        row(8, false, 0, 255),
+    );
 }
 
 fn no_row(text: &[u8], table: Table, k: usize) {
-    unsigned(text, field_at(table, k), 0, 0, 0);
+    has_row(text, table, k, row(0, false, 0, 0));
 }
 
 pub(crate) fn no_rows() {
@@ -98,7 +128,10 @@ pub(crate) fn no_rows() {
 }
 
 fn within(text: &[u8], k: usize, count: i64, is_in: bool) {
-    expected(text, in_range(two(k), count) == is_in);
+    expected(
+        text,
+        in_range(field_at(Table::Subframe2, k), count) == is_in,
+    );
 }
 
 pub(crate) fn ranges() {
@@ -114,13 +147,10 @@ pub(crate) fn ranges() {
 }
 
 fn odd(text: &[u8], least: u64, most: u64, count: i64, is_in: bool) {
-    let field = Field {
-        width: usize::MAX,
-        signed: true,
-        least,
-        most,
-    };
-    expected(text, in_range(field, count) == is_in);
+    expected(
+        text,
+        in_range(row(usize::MAX, true, least, most), count) == is_in,
+    );
 }
 
 pub(crate) fn odd_ranges() {
@@ -135,14 +165,14 @@ pub(crate) fn odd_ranges() {
     odd(
         b"the least is in the range to 2^63 - 1",
         0,
-        9223372036854775807,
+        (1 << 63) - 1,
         i64::MIN,
         true,
     );
     odd(
         b"and not in that to 2^63 - 2",
         0,
-        9223372036854775806,
+        (1 << 63) - 2,
         i64::MIN,
         false,
     );

@@ -49,24 +49,20 @@ pub(crate) fn known() {
     );
 }
 
-fn not_taken(text: &[u8], taken: Result<ClockCounts, Refusal>, place: usize) {
-    refused(text, &taken, 6, place);
-}
-
-// The same in each place, behind zeros.
+// Refused in each place, behind zeros.
 fn refused_in_turn(text: &[u8], x: f64) {
-    not_taken(text, of(x, x, x), 471);
-    not_taken(b"  and 6 at 497 for af1", of(0.0, x, x), 497);
-    not_taken(b"  and 6 at 517 for af2", of(0.0, 0.0, x), 517);
+    refused(text, &of(x, x, x), 6, 471);
+    refused(b"  and 6 at 497 for af1", &of(0.0, x, x), 6, 497);
+    refused(b"  and 6 at 517 for af2", &of(0.0, 0.0, x), 6, 517);
 }
 
 pub(crate) fn no_numbers() {
     refused_in_turn(
         b"counts_of what is no number is refused 6 at 471, with zeros",
-        0.0 / 0.0,
+        f64::NAN,
     );
-    refused_in_turn(b"counts_of plus infinity is", 1.0 / 0.0);
-    refused_in_turn(b"counts_of minus infinity is", -1.0 / 0.0);
+    refused_in_turn(b"counts_of plus infinity is", f64::INFINITY);
+    refused_in_turn(b"counts_of minus infinity is", f64::NEG_INFINITY);
     refused_in_turn(b"counts_of minus zero is", -0.0);
 }
 
@@ -74,7 +70,7 @@ pub(crate) fn no_numbers() {
 pub(crate) fn no_counts() {
     refused_in_turn(b"counts_of the least number above zero is", 5e-324);
     refused_in_turn(b"counts_of half of 2^-60 is", 0.5 / STEPS2);
-    refused_in_turn(b"counts_of the largest number is", 1.7976931348623157e308);
+    refused_in_turn(b"counts_of the largest number is", f64::MAX);
     refused_in_turn(
         b"counts_of 2^-10, too large for each, is",
         33554432.0 / STEPS0,
@@ -82,26 +78,35 @@ pub(crate) fn no_counts() {
 }
 
 pub(crate) fn each_by_itself() {
-    not_taken(
+    refused(
         b"half a step of af0 is refused 6 at 471",
-        of(0.5 / STEPS0, 0.0, 0.0),
+        &of(0.5 / STEPS0, 0.0, 0.0),
+        6,
         471,
     );
-    not_taken(
+    refused(
         b"a step less than the least too",
-        of(-33554433.0 / STEPS0, 0.0, 0.0),
+        &of(-33554433.0 / STEPS0, 0.0, 0.0),
+        6,
         471,
     );
-    not_taken(
+    refused(
         b"half a step of af1 6 at 497",
-        of(0.0, 0.5 / STEPS1, 0.0),
+        &of(0.0, 0.5 / STEPS1, 0.0),
+        6,
         497,
     );
-    not_taken(b"524288 steps too", of(0.0, 524288.0 / STEPS1, 0.0), 497);
-    not_taken(
+    refused(
+        b"524288 steps too",
+        &of(0.0, 524288.0 / STEPS1, 0.0),
+        6,
+        497,
+    );
+    refused(
         b"a step and a half of af2 6 at 517",
-        of(0.0, 0.0, 1.5 / STEPS2),
+        &of(0.0, 0.0, 1.5 / STEPS2),
+        6,
         517,
     );
-    not_taken(b"512 steps too", of(0.0, 0.0, 512.0 / STEPS2), 517);
+    refused(b"512 steps too", &of(0.0, 0.0, 512.0 / STEPS2), 6, 517);
 }

@@ -1,11 +1,13 @@
 // The function `write_fields` of `fields::subframe2`.
 ghost use Rattle.std.specs.Prelude.{◌<◌, ◌≤◌};
 
+use super::read_fields::with_count;
 use fields::subframe2::{ITOW, TGD, TOE, read_fields, write_fields};
 use show::{done, expected, refused};
 use words::bits::take_signed;
 
 // Refused, and the bytes stay.
+// It calls `write_fields` itself: a closure of that call at each place below would be no plainer.
 fn stays<const N: usize>(text: &[u8], counts: &[i64], before: [u8; N], number: u8, place: usize)
     requires { N ≤ 577 }
 {
@@ -14,38 +16,35 @@ fn stays<const N: usize>(text: &[u8], counts: &[i64], before: [u8; N], number: u
     expected(b"  and the bytes stay", bits == before);
 }
 
-fn of_counts(text: &[u8], counts: &[i64]) {
-    stays(text, counts, [9; 576], 1, 0);
-}
-
-fn into<const N: usize>(text: &[u8])
-    requires { N ≤ 577 }
-{
-    stays(text, &[i64::MIN; 33], [9; N], 1, 0);
-}
-
 // A wrong length comes before counts that are out of range.
 pub(crate) fn lengths() {
-    let counts = [i64::MIN; 34];
-    of_counts(b"write_fields of nothing is refused 1 at 0", &counts[0..0]);
-    of_counts(b"  of 32 counts too", &counts[0..32]);
-    of_counts(b"  of 34 too", &counts);
-}
-
-pub(crate) fn other_bits() {
-    into::<0>(b"write_fields into nothing is refused 1 at 0");
-    into::<575>(b"  into 575 bytes too");
-    into::<577>(b"  into 577 too");
+    let least = [i64::MIN; 34];
+    stays(
+        b"write_fields of nothing is refused 1 at 0",
+        &least[0..0],
+        [9; 576],
+        1,
+        0,
+    );
+    stays(b"  of 32 counts too", &least[0..32], [9; 576], 1, 0);
+    stays(b"  of 34 too", &least, [9; 576], 1, 0);
+    stays(
+        b"write_fields into nothing is refused 1 at 0",
+        &least[0..33],
+        [9; 0],
+        1,
+        0,
+    );
+    stays(b"  into 575 bytes too", &least[0..33], [9; 575], 1, 0);
+    stays(b"  into 577 too", &least[0..33], [9; 577], 1, 0);
 }
 
 // Zeros with one other count, over garbage.
 fn written(text: &[u8], k: usize, count: i64, at: usize, width: usize)
     requires { k < 33 }
 {
-    let mut counts = [0i64; 33];
     let mut bits = [255u8; 576];
-    counts[k] = count;
-    done(text, &write_fields(&counts, &mut bits));
+    done(text, &write_fields(&with_count(k, count), &mut bits));
     expected(
         b"  and its bits are there",
         take_signed(&bits, at, width) == count,
@@ -55,9 +54,7 @@ fn written(text: &[u8], k: usize, count: i64, at: usize, width: usize)
 fn not_written(text: &[u8], k: usize, count: i64, place: usize)
     requires { k < 33 }
 {
-    let mut counts = [0i64; 33];
-    counts[k] = count;
-    stays(text, &counts, [255; 576], 6, place);
+    stays(text, &with_count(k, count), [255; 576], 6, place);
 }
 
 pub(crate) fn known() {

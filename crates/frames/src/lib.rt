@@ -4,3 +4,4 @@
 mod block;
 pub mod build;
 pub mod read;
+mod symbols;

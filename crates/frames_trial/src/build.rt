@@ -1,7 +1,7 @@
 // The function of `frames::build`.
 ghost use Rattle.std.specs.Prelude.{◌<◌, ◌≤◌};
 
-use fields::subframe2::{ITOW, TGD, TOE};
+use fields::subframe2::{ISF, ITOW, M0, TGD, TOE, WN};
 use frames::build::build;
 use show::{done, expected, refused};
 use words::bits::put_number;
@@ -18,49 +18,72 @@ pub(crate) fn zeros() {
     expected(b"  and the frame is 1800 zeros", frame == [0; 1800]);
 }
 
-// Refused, and the frame stays.
-fn stays(text: &[u8], toi: u16, counts: &[i64], page: &[u8], number: u8, place: usize) {
-    let mut frame = [7u8; 1800];
+// Into a frame of that length: refused, and it stays, which the text `then` says.
+// It calls `build` itself: a closure of that call at each place below would be no plainer.
+fn stays_in<const N: usize>(
+    text: &[u8],
+    then: &[u8],
+    toi: u16,
+    counts: &[i64],
+    page: &[u8],
+    number: u8,
+    place: usize,
+)
+    requires { N ≤ 1801 }
+{
+    let mut frame = [7u8; N];
     refused(text, &build(toi, counts, page, &mut frame), number, place);
-    expected(b"  and the frame stays", frame == [7; 1800]);
+    expected(then, frame == [7; N]);
+}
+
+fn stays(text: &[u8], toi: u16, counts: &[i64], page: &[u8], number: u8, place: usize) {
+    stays_in::<1800>(
+        text,
+        b"  and the frame stays",
+        toi,
+        counts,
+        page,
+        number,
+        place,
+    );
 }
 
 // Everything else is wrong too: a wrong length comes first.
-fn of_counts(text: &[u8], counts: &[i64]) {
-    let page = [255u8; 250];
-    stays(text, 400, counts, &page, 1, 0);
-}
-
-fn of_page(text: &[u8], page: &[u8]) {
-    let counts = [i64::MIN; 33];
-    stays(text, 400, &counts, page, 1, 0);
-}
-
 fn other_contents() {
     let counts = [i64::MIN; 34];
     let page = [255u8; 251];
-    of_counts(b"build of no counts is refused 1 at 0", &counts[0..0]);
-    of_counts(b"  of 32 too", &counts[0..32]);
-    of_counts(b"  of 34 too", &counts);
-    of_page(b"  of no page bits too", &page[0..0]);
-    of_page(b"  of 249 too", &page[0..249]);
-    of_page(b"  of 251 too", &page);
+    stays(
+        b"build of no counts is refused 1 at 0",
+        400,
+        &counts[0..0],
+        &page[0..250],
+        1,
+        0,
+    );
+    stays(b"  of 32 too", 400, &counts[0..32], &page[0..250], 1, 0);
+    stays(b"  of 34 too", 400, &counts, &page[0..250], 1, 0);
+    stays(
+        b"  of no page bits too",
+        400,
+        &counts[0..33],
+        &page[0..0],
+        1,
+        0,
+    );
+    stays(b"  of 249 too", 400, &counts[0..33], &page[0..249], 1, 0);
+    stays(b"  of 251 too", 400, &counts[0..33], &page, 1, 0);
 }
 
-fn into<const N: usize>(text: &[u8])
+fn other_frame<const N: usize>(text: &[u8])
     requires { N ≤ 1801 }
 {
-    let counts = [0i64; 33];
-    let page = [0u8; 250];
-    let mut frame = [7u8; N];
-    refused(text, &build(0, &counts, &page, &mut frame), 1, 0);
-    expected(b"  and it stays", frame == [7; N]);
+    stays_in::<N>(text, b"  and it stays", 0, &[0; 33], &[0; 250], 1, 0);
 }
 
 fn other_frames() {
-    into::<0>(b"build into nothing is refused 1 at 0");
-    into::<1799>(b"  into 1799 bytes too");
-    into::<1801>(b"  into 1801 too");
+    other_frame::<0>(b"build into nothing is refused 1 at 0");
+    other_frame::<1799>(b"  into 1799 bytes too");
+    other_frame::<1801>(b"  into 1801 too");
 }
 
 pub(crate) fn lengths() {
@@ -114,23 +137,28 @@ pub(crate) fn times() {
 }
 
 // Zeros with one other count.
+fn counts_with(k: usize, count: i64) -> [i64; 33]
+    requires { k < 33 }
+{
+    let mut counts = [0i64; 33];
+    counts[k] = count;
+    counts
+}
+
 fn with_count(text: &[u8], k: usize, count: i64)
     requires { k < 33 }
 {
-    let page = [0u8; 250];
-    let mut counts = [0i64; 33];
     let mut frame = [255u8; 1800];
-    counts[k] = count;
-    done(text, &build(399, &counts, &page, &mut frame));
+    done(
+        text,
+        &build(399, &counts_with(k, count), &[0; 250], &mut frame),
+    );
 }
 
 fn not_with_count(text: &[u8], k: usize, count: i64, place: usize)
     requires { k < 33 }
 {
-    let page = [0u8; 250];
-    let mut counts = [0i64; 33];
-    counts[k] = count;
-    stays(text, 399, &counts, &page, 6, place);
+    stays(text, 399, &counts_with(k, count), &[0; 250], 6, place);
 }
 
 pub(crate) fn known() {
@@ -143,26 +171,24 @@ pub(crate) fn known() {
 }
 
 pub(crate) fn extreme() {
-    not_with_count(b"build with wn -1 is refused 6 at 1", 0, -1, 1);
+    not_with_count(b"build with wn -1 is refused 6 at 1", WN, -1, 1);
     not_with_count(
         b"  with the least of all for m0 6 at 141",
-        10,
+        M0,
         i64::MIN,
         141,
     );
-    not_with_count(b"  with the most for isf 6 at 566", 32, i64::MAX, 566);
+    not_with_count(b"  with the most for isf 6 at 566", ISF, i64::MAX, 566);
 }
 
 fn with_page(text: &[u8], count: i64, tot: u16, dn: u8, number: u8, place: usize)
     requires { dn < 16 }
 {
-    let mut counts = [0i64; 33];
     let mut page = [0u8; 250];
-    counts[32] = count;
     put_number(&mut page, 8, 6, 1).unwrap();
     put_number(&mut page, 58, 16, u64::from(tot)).unwrap();
     put_number(&mut page, 100, 4, u64::from(dn)).unwrap();
-    stays(text, 0, &counts, &page, number, place);
+    stays(text, 0, &counts_with(ISF, count), &page, number, place);
 }
 
 pub(crate) fn pages() {

@@ -2,8 +2,52 @@
 use frames::build::build;
 use frames::read::{Frame, read, read_subframe2, read_subframe3, read_time};
 use show::{done, expected, refused};
-use words::refusal::Refusal;
+use words::refusal::{Refusal, refuse};
 use words::time::Time;
+
+// What each part of a frame is read as alone.
+#[derive(Clone, Copy)]
+pub(crate) struct Parts {
+    pub(crate) time: Result<Time, Refusal>,
+    pub(crate) counts: Result<[i64; 33], Refusal>,
+    pub(crate) page: Result<[u8; 250], Refusal>,
+}
+
+// One part, with a text for where it is read and one for where it is refused.
+fn alone<T: PartialEq + Copy>(
+    reads: &[u8],
+    refuses: &[u8],
+    read: Result<T, Refusal>,
+    part: Result<T, Refusal>,
+) {
+    let text = if part.is_ok() { reads } else { refuses };
+    expected(text, read == part);
+}
+
+pub(crate) fn time_alone(symbols: &[u8], time: Result<Time, Refusal>) {
+    alone(
+        b"  read_time reads it",
+        b"  read_time refuses it, with zeros",
+        read_time(symbols),
+        time,
+    );
+}
+
+pub(crate) fn parts_alone(symbols: &[u8], parts: Parts) {
+    time_alone(symbols, parts.time);
+    alone(
+        b"  read_subframe2 reads it",
+        b"  read_subframe2 refuses it, with zeros",
+        read_subframe2(symbols),
+        parts.counts,
+    );
+    alone(
+        b"  read_subframe3 reads it",
+        b"  read_subframe3 refuses it, with zeros",
+        read_subframe3(symbols),
+        parts.page,
+    );
+}
 
 // ---- refusals: nothing else is given
 
@@ -16,38 +60,16 @@ pub(crate) fn no_frame(text: &[u8], symbols: &[u8], number: u8, place: usize) {
     );
 }
 
-pub(crate) fn no_time(symbols: &[u8], number: u8, place: usize) {
-    refused(
-        b"  read_time refuses it, with zeros",
-        &read_time(symbols),
-        number,
-        place,
-    );
-}
-
-pub(crate) fn no_two(symbols: &[u8], number: u8, place: usize) {
-    refused(
-        b"  read_subframe2 refuses it, with zeros",
-        &read_subframe2(symbols),
-        number,
-        place,
-    );
-}
-
-pub(crate) fn no_three(symbols: &[u8], number: u8, place: usize) {
-    refused(
-        b"  read_subframe3 refuses it, with zeros",
-        &read_subframe3(symbols),
-        number,
-        place,
-    );
-}
-
 fn all_refuse(text: &[u8], symbols: &[u8], number: u8, place: usize) {
     no_frame(text, symbols, number, place);
-    no_time(symbols, number, place);
-    no_two(symbols, number, place);
-    no_three(symbols, number, place);
+    parts_alone(
+        symbols,
+        Parts {
+            time: refuse(number, place),
+            counts: refuse(number, place),
+            page: refuse(number, place),
+        },
+    );
 }
 
 pub(crate) fn lengths() {
@@ -88,27 +110,6 @@ pub(crate) fn no_bits() {
 
 // ---- contents
 
-pub(crate) fn is_time(symbols: &[u8], toi: u16, corrected: u32) {
-    expected(
-        b"  read_time reads it",
-        read_time(symbols) == Ok(Time { toi, corrected }),
-    );
-}
-
-pub(crate) fn is_two(symbols: &[u8], counts: [i64; 33]) {
-    expected(
-        b"  read_subframe2 reads it",
-        read_subframe2(symbols) == Ok(counts),
-    );
-}
-
-pub(crate) fn is_three(symbols: &[u8], page: [u8; 250]) {
-    expected(
-        b"  read_subframe3 reads it",
-        read_subframe3(symbols) == Ok(page),
-    );
-}
-
 // The whole of it, and each part alone.
 fn all_read(text: &[u8], symbols: &[u8], contents: Frame) {
     let frame = read(symbols);
@@ -123,9 +124,17 @@ fn all_read(text: &[u8], symbols: &[u8], contents: Frame) {
         b"  with its counts and page bits",
         frame.is_ok_and(|frame| frame.counts == contents.counts && frame.page == contents.page),
     );
-    is_time(symbols, contents.toi, contents.corrected);
-    is_two(symbols, contents.counts);
-    is_three(symbols, contents.page);
+    parts_alone(
+        symbols,
+        Parts {
+            time: Ok(Time {
+                toi: contents.toi,
+                corrected: contents.corrected,
+            }),
+            counts: Ok(contents.counts),
+            page: Ok(contents.page),
+        },
+    );
 }
 
 pub(crate) fn zeros() {

@@ -34,16 +34,16 @@ known_results =
     ∷ known_case "order: 1747 to 1747" (leaves 1747) (taken_with (1747 ∷ []))
     ∷ known_case "itow 83 taken" (judged_count "itow" 83) (taken_with [])
     ∷ known_case "itow 83 taken, read from its bits" (read_count "itow" 83) (taken_with (83 ∷ []))
-    ∷ known_case "itow 84 refused 6 at 14" (judged_count "itow" 84) (refused_with 6 14 [])
-    ∷ known_case "itow 84 refused 6 at 14, read from its bits" (read_count "itow" 84) (refused_with 6 14 (0 ∷ []))
+    ∷ known_case "itow 84 refused 6 at 14" (judged_count "itow" 84) (refused_with 6 14)
+    ∷ known_case "itow 84 refused 6 at 14, read from its bits" (read_count "itow" 84) (refused_with 6 14)
     ∷ known_case "toe 2015 taken" (judged_count "toe" 2015) (taken_with [])
     ∷ known_case "toe 2015 taken, read from its bits" (read_count "toe" 2015) (taken_with (2015 ∷ []))
-    ∷ known_case "toe 2016 refused 6 at 39" (judged_count "toe" 2016) (refused_with 6 39 [])
-    ∷ known_case "toe 2016 refused 6 at 39, read from its bits" (read_count "toe" 2016) (refused_with 6 39 (0 ∷ []))
+    ∷ known_case "toe 2016 refused 6 at 39" (judged_count "toe" 2016) (refused_with 6 39)
+    ∷ known_case "toe 2016 refused 6 at 39, read from its bits" (read_count "toe" 2016) (refused_with 6 39)
     ∷ known_case "tgd -4096 not available" (delay (negsuc 4095)) []
     ∷ known_case "tgd -4095 a value" (delay (negsuc 4094)) (negsuc 4094 ∷ [])
-    ∷ known_case "an empty buffer as a sheet: 10" (sheet_in []) (refused_with 10 0 [])
-    ∷ known_case "`back 00000` and byte 10 alone: 15 at 1" (sheet_in (bytes_in "back 00000" ++ LINE_END ∷ [])) (refused_with 15 1 [])
+    ∷ known_case "an empty buffer as a sheet: 10" (sheet_in []) (refused_with 10 0)
+    ∷ known_case "`back 00000` and byte 10 alone: 15 at 1" (sheet_in (bytes_in "back 00000" ++ LINE_END ∷ [])) (refused_with 15 1)
     ∷ []
 
 -- the row k, from 0

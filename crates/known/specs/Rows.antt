@@ -1,19 +1,18 @@
 -- Rows of known results (document 01, "Known results"). What is given and what is expected are lists of numbers, so that all rows have
--- one type: the number and place of an answer by the table "Numbers given on refusal", 0 and 0 where nothing is refused, and the values.
+-- one type: the number and place of an answer by the table "Numbers given on refusal", or 0 and 0 where nothing is refused, and then the
+-- values, of which a refusal has none.
 -- Assumes nothing.
-use Rattle.std.specs.Prelude.{ℕ, ◌-◌, List, [], ◌∷◌, ◌++◌, map, replicate, ℤ, pos, slice_index_or, slice_set, Option, None, Some}
+use Rattle.std.specs.Prelude.{ℕ, ◌-◌, List, [], ◌∷◌, ◌++◌, map, replicate, ℤ, pos, slice_index_or, slice_set, Option, None, Some, Result, Ok, Err}
 use Prim.Native.String.{String}
 use Rattle.words.specs.Crc.{check_of}
-use Rattle.words.specs.Refusal.{number_of, place_of}
+use Rattle.words.specs.Refusal.{Answer, number_of, place_of, answer_of}
 use Rattle.words.specs.Sums.{sums}
 use Rattle.words.specs.Time.{time_answer, time_bytes, time_read}
-use Rattle.words.specs.declared.refusal.Answer.{Answer}
+use Rattle.words.specs.declared.refusal.Refusal.{Refusal}
 use Rattle.words.specs.declared.time.Time.{Time}
 use Rattle.parity.specs.Order.{place_in_order}
-use Rattle.parity.specs.declared.order.Place.{Place}
 use Rattle.fields.specs.Delay.{delay_of}
 use Rattle.fields.specs.Subframe2.{BITS_2, COUNTS_2, bits2, counts_judged, fields_read}
-use Rattle.fields.specs.declared.subframe2.Fields.{Fields}
 use Rattle.sheets.specs.List.{sheet_names, position_in}
 use Rattle.sheets.specs.Sheet.{sheet_read}
 use Rattle.sheets.specs.Text.{bytes_in}
@@ -38,15 +37,24 @@ numbers l = map pos l
 abbrev pub taken_with : List ℕ → List ℤ
 taken_with values = numbers (0 ∷ 0 ∷ values)
 
--- refused, with these values beside it
-abbrev pub refused_with : ℕ → ℕ → List ℕ → List ℤ
-refused_with number place values = numbers (number ∷ place ∷ values)
+-- refused, with this number, at this place
+abbrev pub refused_with : ℕ → ℕ → List ℤ
+refused_with number place = numbers (number ∷ place ∷ [])
 
 -- ---- what is given
 
 -- an answer, and the values beside it
 abbrev pub answer_numbers : Answer → List ℤ → List ℤ
 answer_numbers a values = pos (number_of a) ∷ pos (place_of a) ∷ values
+
+-- the values of what is given; none where it is refused
+abbrev pub values_of : {A : Type 0} → (A → List ℤ) → Result A Refusal → List ℤ
+values_of values (Ok x) = values x
+values_of values (Err r) = []
+
+-- the answer of what is given or refused, and the values beside it
+abbrev pub given_numbers : {A : Type 0} → (A → List ℤ) → Result A Refusal → List ℤ
+given_numbers values given = answer_numbers (answer_of given) (values_of values given)
 
 -- writing a time's word over 52 bytes that are no bits (`words::time::write_time`): the symbols then
 abbrev pub word_of : ℕ → List ℤ
@@ -56,13 +64,13 @@ word_of toi = answer_numbers (time_answer (replicate 52 255) toi) (numbers (time
 abbrev pub nine_turned : List ℕ → List ℕ
 nine_turned word = sums word (replicate 9 1 ++ replicate 43 0)
 
--- what reading a time gives: the time, and how many symbols differ
+-- the values of a time that was read: the time, and how many symbols differ
 abbrev pub time_numbers : Time → List ℤ
-time_numbers t = answer_numbers t.answer (numbers (t.toi ∷ t.corrected ∷ []))
+time_numbers t = numbers (t.toi ∷ t.corrected ∷ [])
 
 -- reading symbols as a time (`words::time::read_time`)
 abbrev pub read_as_time : List ℕ → List ℤ
-read_as_time symbols = time_numbers (time_read symbols)
+read_as_time symbols = given_numbers time_numbers (time_read symbols)
 
 -- the data bits 1 to 576, zero but one
 abbrev pub zero_but_bit : ℕ → List ℕ
@@ -72,13 +80,13 @@ zero_but_bit bit = slice_set (replicate BITS_2 0) (bit - 1) 1
 abbrev pub check_bits : List ℕ → List ℤ
 check_bits bits = numbers (check_of bits ∷ [])
 
--- what asking for a place gives: the place
-abbrev pub place_numbers : Place → List ℤ
-place_numbers p = answer_numbers p.answer (numbers (p.index ∷ []))
+-- the value of a place
+abbrev pub place_numbers : ℕ → List ℤ
+place_numbers place = numbers (place ∷ [])
 
 -- where the symbol at k leaves (`parity::order::place_in_order`)
 abbrev pub leaves : ℕ → List ℤ
-leaves k = place_numbers (place_in_order k)
+leaves k = given_numbers place_numbers (place_in_order k)
 
 -- how many fields of subframe 2 stand before the one with this name: the list of a sheet has toi before them
 abbrev pub fields_before : String → ℕ
@@ -92,13 +100,13 @@ zero_but_count name n = slice_set (replicate COUNTS_2 (pos 0)) (fields_before na
 abbrev pub judged_count : String → ℕ → List ℤ
 judged_count name n = answer_numbers (counts_judged (zero_but_count name n)) []
 
--- what reading fields gives: the count of one field
-abbrev pub count_numbers : String → Fields → List ℤ
-count_numbers name f = answer_numbers f.answer (slice_index_or f.counts (fields_before name) (pos 0) ∷ [])
+-- the value of counts that were read: the count of one field
+abbrev pub count_numbers : String → List ℤ → List ℤ
+count_numbers name counts = slice_index_or counts (fields_before name) (pos 0) ∷ []
 
 -- reading their bits (`fields::subframe2::read_fields`)
 abbrev pub read_count : String → ℕ → List ℤ
-read_count name n = count_numbers name (fields_read (bits2 (zero_but_count name n)))
+read_count name n = given_numbers (count_numbers name) (fields_read (bits2 (zero_but_count name n)))
 
 -- what a count of tgd says: not available, or this value
 abbrev pub delay_numbers : Option ℤ → List ℤ
@@ -111,4 +119,4 @@ delay count = delay_numbers (delay_of count)
 
 -- reading bytes as a sheet (`sheets::sheet::read_sheet`): its answer
 abbrev pub sheet_in : List ℕ → List ℤ
-sheet_in bytes = answer_numbers (sheet_read bytes).answer []
+sheet_in bytes = answer_numbers (answer_of (sheet_read bytes)) []

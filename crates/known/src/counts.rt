@@ -14,7 +14,7 @@ fn judged_count(k: usize, count: i64) -> Text {
 }
 
 fn judged_text(counts: &[i64; 33]) -> Text {
-    answer_text(judge_counts(counts))
+    answer_text(&judge_counts(counts))
 }
 
 pub(crate) fn judged(tally: &mut Tally) {

@@ -1,15 +1,12 @@
 // The order of symbols.
 use super::tally::Tally;
-use super::text::{Text, refusal_text, text_of};
+use super::text::{Text, text_of};
 use parity::order::place_in_order;
-use words::refusal::Answer;
 
 fn leaves_at(index: usize) -> Text {
-    let place = place_in_order(index);
-    let answer = place.answer;
-    match answer {
-        Answer::Done => text_of(place.index),
-        Answer::Refused(r) => refusal_text(r),
+    match place_in_order(index) {
+        Ok(place) => text_of(place),
+        Err(refusal) => text_of(refusal),
     }
 }
 

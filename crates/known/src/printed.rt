@@ -9,7 +9,7 @@ fn zero_input() -> [u8; 500] {
     let numbers = [0i64; 34];
     let mut input = [b'0'; 500];
     input[250] = b'\n';
-    write_sheet(&numbers, &mut input[251..494]);
+    let _ = write_sheet(&numbers, &mut input[251..494]);
     input
 }
 

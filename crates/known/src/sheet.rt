@@ -1,19 +1,16 @@
 // Sheets.
 use super::tally::Tally;
-use super::text::{Text, answer_text, push_bytes, refusal_text, text_of};
+use super::text::{Text, answer_text, push_bytes, text_of};
 use sheets::sheet::read_sheet;
 use sheets::write::write_sheet;
-use words::refusal::Answer;
 
 // How many bytes the lines of the sheet with every number 0 have, and its trailer.
 fn zeros_text() -> Text {
     let numbers = [0i64; 34];
     let mut sheet = [0u8; 243];
-    let written = write_sheet(&numbers, &mut sheet);
-    let answer = written.answer;
-    match answer {
-        Answer::Done => lines_text(&sheet, written.size),
-        Answer::Refused(r) => refusal_text(r),
+    match write_sheet(&numbers, &mut sheet) {
+        Ok(size) => lines_text(&sheet, size),
+        Err(refusal) => text_of(refusal),
     }
 }
 
@@ -33,9 +30,7 @@ pub(crate) fn zeros(tally: &mut Tally) {
 }
 
 fn sheet_text(bytes: &[u8]) -> Text {
-    let sheet = read_sheet(bytes);
-    let answer = sheet.answer;
-    answer_text(answer)
+    answer_text(&read_sheet(bytes))
 }
 
 pub(crate) fn refused(tally: &mut Tally) {

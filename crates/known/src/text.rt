@@ -1,7 +1,7 @@
 // What came out, as a text of at most 64 bytes.
 use arrayvec::ArrayString;
 use std::fmt::{Display, Write};
-use words::refusal::{Answer, Refusal};
+use words::refusal::Refusal;
 
 pub(crate) type Text = ArrayString<64>;
 
@@ -19,16 +19,10 @@ pub(crate) fn push_bytes(text: &mut Text, bytes: &[u8]) {
     }
 }
 
-pub(crate) fn refusal_text(refusal: Refusal) -> Text {
-    let number = refusal.number;
-    let place = refusal.place;
-    text_of(format_args!("refused {number} at {place}"))
-}
-
-// Of an answer with nothing beside it.
-pub(crate) fn answer_text(answer: Answer) -> Text {
+// That something is taken, whatever it gives, or its refusal.
+pub(crate) fn answer_text<T>(answer: &Result<T, Refusal>) -> Text {
     match answer {
-        Answer::Done => text_of("taken"),
-        Answer::Refused(r) => refusal_text(r),
+        Ok(_) => text_of("taken"),
+        Err(refusal) => text_of(*refusal),
     }
 }

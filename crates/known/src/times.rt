@@ -1,9 +1,8 @@
 // Time words.
 use super::tally::Tally;
-use super::text::{Text, push_bytes, refusal_text, text_of};
+use super::text::{Text, push_bytes, text_of};
 use words::bits::{put_number, take_number};
-use words::refusal::Answer;
-use words::time::{read_time, write_time};
+use words::time::{Time, read_time, write_time};
 
 fn symbols_text(symbols: &[u8]) -> Text {
     let mut text = Text::new();
@@ -14,8 +13,8 @@ fn symbols_text(symbols: &[u8]) -> Text {
 fn word_of(toi: u16) -> Text {
     let mut symbols = [255u8; 52];
     match write_time(&mut symbols, toi) {
-        Answer::Done => symbols_text(&symbols),
-        Answer::Refused(r) => refusal_text(r),
+        Ok(()) => symbols_text(&symbols),
+        Err(refusal) => text_of(refusal),
     }
 }
 
@@ -27,24 +26,18 @@ pub(crate) fn words_of(tally: &mut Tally) {
 }
 
 fn time_in(symbols: &[u8]) -> Text {
-    let time = read_time(symbols);
-    let answer = time.answer;
-    match answer {
-        Answer::Done => {
-            let toi = time.toi;
-            let corrected = time.corrected;
-            text_of(format_args!("{toi} with {corrected}"))
-        }
-        Answer::Refused(r) => refusal_text(r),
+    match read_time(symbols) {
+        Ok(Time { toi, corrected }) => text_of(format_args!("{toi} with {corrected}")),
+        Err(refusal) => text_of(refusal),
     }
 }
 
 // TOI 0's word with its first nine symbols turned.
 fn nine_turned() -> [u8; 52] {
     let mut symbols = [255u8; 52];
-    write_time(&mut symbols, 0);
+    let _ = write_time(&mut symbols, 0);
     let turned = take_number(&symbols, 0, 9) ^ 511;
-    put_number(&mut symbols, 0, 9, turned);
+    let _ = put_number(&mut symbols, 0, 9, turned);
     symbols
 }
 

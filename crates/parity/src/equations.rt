@@ -1,5 +1,5 @@
 // The equations of a block, and the first that isn't met.
-ghost use Rattle.std.specs.Prelude.{◌≡◌, ◌+◌, ◌-◌, ◌%◌, length, replicate};
+ghost use Rattle.std.specs.Prelude.{◌≡◌, ◌+◌, ◌%◌, length};
 ghost use Rattle.words.specs.Refusal.{number};
 ghost use Rattle.tables.specs.Coordinates.{symbol_at};
 ghost use Rattle.tables.specs.Matrix.{matrix_of};
@@ -7,7 +7,7 @@ ghost use Rattle.parity.specs.Equations.{last_sum, first_odd, first_unmet, equat
 ghost use Rattle.parity.specs.Laws.Passed.{side_by_side, if_any};
 
 use tables::matrix::{Subframe, Submatrix, add, equations};
-use words::bits::first_not_bit;
+use words::bits::judge_bits;
 use words::refusal::{Refusal, Rule};
 
 // A block has this many symbols: as many of parity as of data.
@@ -92,10 +92,7 @@ pub fn first_unmet(subframe: Subframe, block: &[u8]) -> Result<(), Refusal>
     if !is_block(subframe, block.len()) {
         return Err(Rule::Length.at(0));
     }
-    let bad = first_not_bit(block);
-    if bad != block.len() {
-        return Err(Rule::NotABit.at(bad));
-    }
+    judge_bits(block)?;
     let block = Block {
         subframe,
         symbols: block,

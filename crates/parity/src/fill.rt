@@ -6,7 +6,7 @@ ghost use Rattle.parity.specs.Fill.{p1_from, p2_from, fill_answer, fill_bytes};
 
 use super::equations::is_block;
 use tables::matrix::{Subframe, Submatrix, add, equations, solve};
-use words::bits::first_not_bit;
+use words::bits::judge_bits;
 use words::refusal::{Refusal, Rule};
 
 // Puts as p2 T⁻¹ times the sums.
@@ -52,10 +52,7 @@ pub fn fill_parity(subframe: Subframe, block: &mut [u8]) -> Result<(), Refusal>
         return Err(Rule::Length.at(0));
     }
     let (data, parity) = block.split_at_mut(equations(subframe));
-    let bad = first_not_bit(data);
-    if bad != data.len() {
-        return Err(Rule::NotABit.at(bad));
-    }
+    judge_bits(data)?;
     put_parity(subframe, data, parity);
     Ok(())
 }

@@ -2,9 +2,9 @@
 ghost use Rattle.std.specs.Prelude.{◌≡◌, ◌++◌, ◌+◌, ◌<◌, ◌≤◌, eqb, ltb, length, get_or};
 ghost use Rattle.words.specs.Bits.{first_not_bit};
 ghost use Rattle.words.specs.Refusal.{LENGTH, NOT_A_BIT, done_if};
-ghost use Rattle.parity.specs.Order.{SYMBOLS_2, SYMBOLS_3, SYMBOLS, leaves_at, stood_at, symbols_at, interleaved, place_in_order, place_before, right_lengths, interleave_answer, interleave_bytes, deinterleave_answer, deinterleave_block2, deinterleave_block3};
+ghost use Rattle.parity.specs.Order.{SYMBOLS, leaves_at, stood_at, symbols_at, interleaved, place_in_order, place_before, right_lengths, interleave_answer, interleave_bytes, deinterleave_answer, deinterleave_block2, deinterleave_block3};
 
-use words::bits::first_not_bit;
+use words::bits::{first_not_bit, judge_bits};
 use words::refusal::{Refusal, Rule};
 
 // The symbols of subframe 2, of subframe 3 and of both, and the rows and columns that they fill.
@@ -39,10 +39,10 @@ fn judge_index(index: usize) -> Result<(), Refusal>
     ensures { result ≡ done_if (ltb index SYMBOLS) LENGTH 0 }
 {
     let is_symbol = index < SYMBOLS;
-    if is_symbol {
-        return Ok(());
+    if !is_symbol {
+        return Err(Rule::Length.at(0));
     }
-    Err(Rule::Length.at(0))
+    Ok(())
 }
 
 // Where the symbol at `index` leaves; refused 1 at 0 past the last symbol.
@@ -67,14 +67,15 @@ pub fn place_before(index: usize) -> Result<usize, Refusal>
 fn judge_lengths(count2: usize, count3: usize, count: usize) -> Result<(), Refusal>
     ensures { result ≡ done_if (right_lengths count2 count3 count) LENGTH 0 }
 {
-    if count2 == SYMBOLS_2 && count3 == SYMBOLS_3 && count == SYMBOLS {
-        return Ok(());
+    let fit = count2 == SYMBOLS_2 && count3 == SYMBOLS_3 && count == SYMBOLS;
+    if !fit {
+        return Err(Rule::Length.at(0));
     }
-    Err(Rule::Length.at(0))
+    Ok(())
 }
 
-// Refused 2 at the first byte that is neither 0 nor 1, where `before` others stand before these.
-fn judge_bits(before: usize, bytes: &[u8]) -> Result<(), Refusal>
+// Refused 2 at the first byte that is neither 0 nor 1, counted from the `before` others on that stand before these.
+fn judge_bits_behind(before: usize, bytes: &[u8]) -> Result<(), Refusal>
     requires { before + length bytes.now ≤ SYMBOLS }
     ensures { result ≡ done_if (eqb (first_not_bit bytes.now) (length bytes.now)) NOT_A_BIT (before + first_not_bit bytes.now) }
 {
@@ -115,8 +116,8 @@ pub fn interleave(block2: &[u8], block3: &[u8], symbols: &mut [u8]) -> Result<()
         × (symbols.new ≡ interleave_bytes block2.now block3.now symbols.old) }
 {
     judge_lengths(block2.len(), block3.len(), symbols.len())?;
-    judge_bits(0, block2)?;
-    judge_bits(SYMBOLS_2, block3)?;
+    judge_bits(block2)?;
+    judge_bits_behind(SYMBOLS_2, block3)?;
     put_in_order(block2, block3, symbols);
     Ok(())
 }
@@ -140,7 +141,7 @@ pub fn deinterleave(symbols: &[u8], block2: &mut [u8], block3: &mut [u8]) -> Res
         × (block3.new ≡ deinterleave_block3 symbols.now block2.old block3.old) }
 {
     judge_lengths(block2.len(), block3.len(), symbols.len())?;
-    judge_bits(0, symbols)?;
+    judge_bits(symbols)?;
     take_block(symbols, 0, block2);
     take_block(symbols, SYMBOLS_2, block3);
     Ok(())

@@ -22,7 +22,7 @@ pub(crate) fn met() {
 }
 
 // A wrong length comes before bytes that are no bits.
-pub(crate) fn lengths_two() {
+pub(crate) fn lengths() {
     let garbage = [255u8; 1201];
     unmet(
         b"first_unmet of nothing, of subframe 2, is refused 1 at 0",
@@ -34,10 +34,6 @@ pub(crate) fn lengths_two() {
     unmet(b"  of 548 bytes too", Subframe::Two, &garbage[0..548], 1, 0);
     unmet(b"  of 1199 too", Subframe::Two, &garbage[0..1199], 1, 0);
     unmet(b"  of 1201 too", Subframe::Two, &garbage, 1, 0);
-}
-
-pub(crate) fn lengths_three() {
-    let garbage = [255u8; 1201];
     unmet(
         b"first_unmet of nothing, of subframe 3, is refused 1 at 0",
         Subframe::Three,
@@ -56,76 +52,34 @@ pub(crate) fn lengths_three() {
     unmet(b"  of 1200 too", Subframe::Three, &garbage[0..1200], 1, 0);
 }
 
-// A byte that is no bit comes before an equation that is not met.
-pub(crate) fn no_bits_two() {
-    let garbage = [255u8; 1200];
-    let mut block = [0u8; 1200];
-    unmet(
-        b"first_unmet of garbage, of subframe 2, is refused 2 at 0",
-        Subframe::Two,
-        &garbage,
-        2,
-        0,
-    );
-    block[1199] = 2;
-    unmet(
-        b"  with a last byte 2: 2 at 1199",
-        Subframe::Two,
-        &block,
-        2,
-        1199,
-    );
+// With a text for garbage, one for a last byte 2, and one for a byte 254 in the place of p1.
+fn no_bits_of<const N: usize>(of_garbage: &[u8], last: &[u8], p1: &[u8], subframe: Subframe)
+    requires size { N ≤ 1200 }
+    requires middle { 2 ≤ N }
+{
+    let mut block = [0u8; N];
+    unmet(of_garbage, subframe, &[255; N], 2, 0);
+    block[N - 1] = 2;
+    unmet(last, subframe, &block, 2, N - 1);
     block[0] = 1;
-    unmet(
-        b"  and with a first byte 1 too",
-        Subframe::Two,
-        &block,
-        2,
-        1199,
-    );
-    block[600] = 254;
-    unmet(
-        b"  with a byte 254 for p1: 2 at 600",
-        Subframe::Two,
-        &block,
-        2,
-        600,
-    );
+    unmet(b"  and with a first byte 1 too", subframe, &block, 2, N - 1);
+    block[N / 2] = 254;
+    unmet(p1, subframe, &block, 2, N / 2);
 }
 
-pub(crate) fn no_bits_three() {
-    let garbage = [255u8; 548];
-    let mut block = [0u8; 548];
-    unmet(
+// A byte that is no bit comes before an equation that is not met.
+pub(crate) fn no_bits() {
+    no_bits_of::<1200>(
+        b"first_unmet of garbage, of subframe 2, is refused 2 at 0",
+        b"  with a last byte 2: 2 at 1199",
+        b"  with a byte 254 for p1: 2 at 600",
+        Subframe::Two,
+    );
+    no_bits_of::<548>(
         b"first_unmet of garbage, of subframe 3, is refused 2 at 0",
-        Subframe::Three,
-        &garbage,
-        2,
-        0,
-    );
-    block[547] = 2;
-    unmet(
         b"  with a last byte 2: 2 at 547",
-        Subframe::Three,
-        &block,
-        2,
-        547,
-    );
-    block[0] = 1;
-    unmet(
-        b"  and with a first byte 1 too",
-        Subframe::Three,
-        &block,
-        2,
-        547,
-    );
-    block[274] = 254;
-    unmet(
         b"  with a byte 254 for p1: 2 at 274",
         Subframe::Three,
-        &block,
-        2,
-        274,
     );
 }
 
@@ -139,8 +93,9 @@ fn unmet_with<const N: usize>(text: &[u8], subframe: Subframe, at: usize, number
     unmet(text, subframe, &block, number, place);
 }
 
-// The first data symbol is in rows 1, 151 and 440; p1 is in row 1 and more; the last symbol is in rows 599 and 600.
-pub(crate) fn unmet_two() {
+// In subframe 2 the first data symbol is in rows 1, 151 and 440, p1 in row 1 and more, the last symbol in rows 599 and 600; in
+// subframe 3 the first is in rows 1, 17 and 231, p1 in row 3 and more, the last in rows 273 and 274.
+pub(crate) fn single_symbols() {
     unmet_with::<1200>(
         b"first_unmet of subframe 2 with the first data symbol alone is refused 4 at 1",
         Subframe::Two,
@@ -156,10 +111,6 @@ pub(crate) fn unmet_two() {
         4,
         599,
     );
-}
-
-// The first data symbol is in rows 1, 17 and 231; p1 is in row 3 and more; the last symbol is in rows 273 and 274.
-pub(crate) fn unmet_three() {
     unmet_with::<548>(
         b"first_unmet of subframe 3 with the first data symbol alone is refused 7 at 1",
         Subframe::Three,

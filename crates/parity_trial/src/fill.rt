@@ -64,6 +64,7 @@ pub(crate) fn ones() {
 }
 
 // Refused, and the bytes stay.
+// It calls `fill_parity` itself: a closure of that call at each place below would be no plainer.
 fn stays<const N: usize>(text: &[u8], subframe: Subframe, before: [u8; N], number: u8, place: usize)
     requires { N ≤ 1201 }
 {
@@ -79,7 +80,7 @@ fn length<const N: usize>(text: &[u8], subframe: Subframe)
     stays(text, subframe, [255; N], 1, 0);
 }
 
-pub(crate) fn lengths_two() {
+pub(crate) fn lengths() {
     length::<1199>(
         b"fill_parity into 1199 bytes, of subframe 2, is refused 1 at 0",
         Subframe::Two,
@@ -87,9 +88,6 @@ pub(crate) fn lengths_two() {
     length::<1201>(b"  into 1201 too", Subframe::Two);
     length::<548>(b"  into 548 too", Subframe::Two);
     length::<0>(b"  into nothing too", Subframe::Two);
-}
-
-pub(crate) fn lengths_three() {
     length::<547>(
         b"fill_parity into 547 bytes, of subframe 3, is refused 1 at 0",
         Subframe::Three,
@@ -98,7 +96,16 @@ pub(crate) fn lengths_three() {
     length::<0>(b"  into nothing too", Subframe::Three);
 }
 
-fn garbage() {
+fn last_data<const N: usize>(text: &[u8], subframe: Subframe)
+    requires size { N ≤ 1200 }
+    requires middle { 2 ≤ N }
+{
+    let mut block = [1u8; N];
+    block[N / 2 - 1] = 2;
+    stays(text, subframe, block, 2, N / 2 - 1);
+}
+
+pub(crate) fn no_bits() {
     stays(
         b"fill_parity of garbage, of subframe 2, is refused 2 at 0",
         Subframe::Two,
@@ -113,50 +120,34 @@ fn garbage() {
         2,
         0,
     );
-}
-
-fn last_data() {
-    let mut two = [1u8; 1200];
-    let mut three = [1u8; 548];
-    two[599] = 2;
-    three[273] = 2;
-    stays(
+    last_data::<1200>(
         b"fill_parity with a last data byte 2, of subframe 2, is refused 2 at 599",
         Subframe::Two,
-        two,
-        2,
-        599,
     );
-    stays(
+    last_data::<548>(
         b"fill_parity with a last data byte 2, of subframe 3, is refused 2 at 273",
         Subframe::Three,
-        three,
-        2,
-        273,
     );
-}
-
-pub(crate) fn no_bits() {
-    garbage();
-    last_data();
 }
 
 // In the places of the parity a byte that is no bit is written over.
+fn written_over<const N: usize>(text: &[u8], subframe: Subframe)
+    requires size { N ≤ 1200 }
+    requires middle { 2 ≤ N }
+{
+    let mut block = [0u8; N];
+    block[N / 2] = 2;
+    block[N - 1] = 2;
+    filled(text, subframe, block);
+}
+
 pub(crate) fn parity_no_bits() {
-    let mut two = [0u8; 1200];
-    let mut three = [0u8; 548];
-    two[600] = 2;
-    two[1199] = 2;
-    three[274] = 2;
-    three[547] = 2;
-    filled(
+    written_over::<1200>(
         b"fill_parity over a byte 2 first and last, of subframe 2, is done",
         Subframe::Two,
-        two,
     );
-    filled(
+    written_over::<548>(
         b"fill_parity over a byte 2 first and last, of subframe 3, is done",
         Subframe::Three,
-        three,
     );
 }

@@ -37,20 +37,16 @@ fn of_solving() {
 
 fn of_equations() {
     equations::met();
-    equations::lengths_two();
-    equations::lengths_three();
-    equations::no_bits_two();
-    equations::no_bits_three();
-    equations::unmet_two();
-    equations::unmet_three();
+    equations::lengths();
+    equations::no_bits();
+    equations::single_symbols();
     equations::last();
 }
 
 fn of_filling() {
     fill::zeros();
     fill::ones();
-    fill::lengths_two();
-    fill::lengths_three();
+    fill::lengths();
     fill::no_bits();
     fill::parity_no_bits();
 }
@@ -64,15 +60,13 @@ fn of_places() {
 fn of_order() {
     into_order::all_the_same();
     into_order::single_ones();
-    into_order::lengths_of_block2();
-    into_order::lengths_of_block3();
+    into_order::lengths_of_blocks();
     into_order::lengths_of_symbols();
     into_order::no_bits();
 }
 
 fn of_taking_apart() {
     out_of_order::lengths_of_symbols();
-    out_of_order::lengths_of_block2();
-    out_of_order::lengths_of_block3();
+    out_of_order::lengths_of_blocks();
     out_of_order::no_bits();
 }

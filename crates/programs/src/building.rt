@@ -1,57 +1,54 @@
 // The bench program: a page line and a sheet in, a frame out.
-ghost use Rattle.std.specs.Prelude.{◌≡◌, ◌≤◌, pos, length, get_or};
-ghost use Rattle.std.specs.Int.Signed.{mag};
+ghost use Rattle.std.specs.Prelude.{◌≡◌, ◌≤◌, ◌<◌, length, MatchOption};
 ghost use Rattle.words.specs.Bits.{IsBits};
-ghost use Rattle.words.specs.Refusal.{left_by};
-ghost use Rattle.words.specs.Time.{LAST_TOI};
-ghost use Rattle.fields.specs.Pages.{PAGE_BITS};
-ghost use Rattle.frames.specs.Frame.{FRAME, frame_of};
+ghost use Rattle.words.specs.Refusal.{given_by};
+ghost use Rattle.fields.specs.Counts.{AllInRange};
+ghost use Rattle.sheets.specs.List.{sheet_fields};
+ghost use Rattle.sheets.specs.Text.{LINE_END, index_of};
+ghost use Rattle.frames.specs.Frame.{frame_of};
 ghost use Rattle.frames.specs.Build.{contents_answer};
-ghost use Rattle.programs.specs.Symbols.{symbols_in};
 ghost use Rattle.programs.specs.Output.{OUTPUT_BYTES, symbol_line, output_of};
-ghost use Rattle.programs.specs.Building.{first_line, page_line_answer, carried_contents, sheet_contents, behind_answer, input_answer, input_contents, printed_frame};
+ghost use Rattle.programs.specs.Building.{first_line, after_first, carried_contents, sheet_contents, behind_answer, input_answer, input_contents, printed_frame};
 
 use super::output::{Output, refusal_output};
 use super::symbols::take_symbols;
+use super::{FRAME, PAGE_BITS};
 use frames::build::build;
 use sheets::sheet::read_sheet;
 use sheets::text::find;
 use sheets::trailer::sheet_start;
-use words::bits::magnitude;
 use words::refusal::{Refusal, Rule};
 
-// The page bits of the first line. Refused 1 at 0 where it has no newline or another length, 2 at the first character that is neither `0`
-// nor `1`.
-fn take_page_line(input: &[u8], page: &mut [u8]) -> Result<(), Refusal>
-    requires { length page.old ≡ PAGE_BITS }
-    ensures { (result ≡ page_line_answer input.now)
-        × (page.new ≡ left_by (page_line_answer input.now) (symbols_in (first_line input.now)) page.old) }
+// Longer input is refused.
+pub const MOST_INPUT: usize = 8192;
+
+// The first line, without its newline, and the bytes behind it.
+fn split_line(input: &[u8]) -> Option<(&[u8], &[u8])>
+    ensures { MatchOption result (index_of LINE_END input.now ≡ length input.now)
+        (λ parts. (index_of LINE_END input.now < length input.now)
+        × (parts.0.now ≡ first_line input.now) × (parts.1.now ≡ after_first input.now)) }
 {
-    let end = find(input, b'\n');
-    if end == input.len() {
-        return Err(Rule::Length.at(0));
-    }
-    take_symbols(&input[..end], page)
+    let (line, rest) = input.split_at(find(input, b'\n'));
+    let (_, behind) = rest.split_first()?;
+    Some((line, behind))
 }
 
 // The frame of a sheet's numbers, toi's first, and of a page.
-fn build_numbers(numbers: [i64; 34], page: &[u8], frame: &mut [u8]) -> Result<(), Refusal>
-    requires { (mag (get_or numbers 0 (pos 0)) ≤ LAST_TOI) × (length page.now ≡ PAGE_BITS) × IsBits page.now
-        × (length frame.old ≡ FRAME) }
-    ensures { (result ≡ contents_answer (carried_contents numbers page.now))
-        × (frame.new ≡ left_by (contents_answer (carried_contents numbers page.now))
-        (frame_of (carried_contents numbers page.now)) frame.old) }
+fn build_numbers(numbers: &[i64; 34], page: &[u8; PAGE_BITS]) -> Result<[u8; FRAME], Refusal>
+    requires { AllInRange sheet_fields numbers.now × IsBits page.now }
+    ensures { result
+        ≡ given_by (contents_answer (carried_contents numbers.now page.now)) (frame_of (carried_contents numbers.now page.now)) }
 {
-    let toi = magnitude(numbers[0]) as u16;
-    build(toi, &numbers[1..], page, frame)
+    let toi = numbers[0] as u16;
+    let mut frame = [0u8; FRAME];
+    build(toi, &numbers[1..], page, &mut frame)?;
+    Ok(frame)
 }
 
 // The frame of the sheet behind the page line. Refused 10 at 0 where it does not begin right there, then as the sheet, then as the frame.
-fn build_behind(page: &[u8], bytes: &[u8], frame: &mut [u8]) -> Result<(), Refusal>
-    requires { (length page.now ≡ PAGE_BITS) × IsBits page.now × (length frame.old ≡ FRAME) }
-    ensures { (result ≡ behind_answer page.now bytes.now)
-        × (frame.new ≡ left_by (behind_answer page.now bytes.now)
-        (frame_of (sheet_contents page.now bytes.now)) frame.old) }
+fn build_behind(page: &[u8; PAGE_BITS], bytes: &[u8]) -> Result<[u8; FRAME], Refusal>
+    requires { IsBits page.now }
+    ensures { result ≡ given_by (behind_answer page.now bytes.now) (frame_of (sheet_contents page.now bytes.now)) }
 {
     let start = sheet_start(bytes);
     let elsewhere = start != 0;
@@ -59,28 +56,28 @@ fn build_behind(page: &[u8], bytes: &[u8], frame: &mut [u8]) -> Result<(), Refus
         return Err(Rule::Trailer.at(0));
     }
     let sheet = read_sheet(bytes)?;
-    build_numbers(sheet.numbers, page, frame)
+    build_numbers(&sheet.numbers, page)
 }
 
-// The frame of the input, judged in turn: over 8192 bytes, the page line, the sheet, the frame.
-fn build_input(input: &[u8], frame: &mut [u8]) -> Result<(), Refusal>
-    requires { length frame.old ≡ FRAME }
-    ensures { (result ≡ input_answer input.now)
-        × (frame.new ≡ left_by (input_answer input.now) (frame_of (input_contents input.now)) frame.old) }
+// The frame of the input, judged in turn: over 8192 bytes, the page line, the sheet, the frame. The page line is refused 1 at 0 where it
+// has no newline or another length, 2 at the first character that is neither `0` nor `1`.
+fn build_input(input: &[u8]) -> Result<[u8; FRAME], Refusal>
+    ensures { result ≡ given_by (input_answer input.now) (frame_of (input_contents input.now)) }
 {
-    let too_long = 8192 < input.len();
-    if too_long {
+    if MOST_INPUT < input.len() {
         return Err(Rule::Length.at(0));
     }
-    let mut page = [0u8; 250];
-    take_page_line(input, &mut page)?;
-    build_behind(&page, &input[251..], frame)
+    let Some((line, behind)) = split_line(input) else {
+        return Err(Rule::Length.at(0));
+    };
+    let page = take_symbols(line)?;
+    build_behind(&page, behind)
 }
 
 // The symbols of a frame, as characters, and a newline.
-fn frame_output(frame: &[u8]) -> Output
-    requires { (length frame.now ≡ FRAME) × IsBits frame.now }
-    ensures { (result ≡ output_of (symbol_line frame.now)) × (result.size ≤ OUTPUT_BYTES) }
+fn frame_output(frame: &[u8; FRAME]) -> Output
+    requires { IsBits frame.now }
+    ensures { result ≡ output_of (symbol_line frame.now) }
 {
     let mut output = Output::new();
     output.put_line(frame);
@@ -91,9 +88,8 @@ fn frame_output(frame: &[u8]) -> Output
 pub fn print_frame(input: &[u8]) -> Output
     ensures { (result ≡ output_of (printed_frame input.now)) × (result.size ≤ OUTPUT_BYTES) }
 {
-    let mut frame = [0u8; 1800];
-    match build_input(input, &mut frame) {
-        Ok(()) => frame_output(&frame),
+    match build_input(input) {
+        Ok(frame) => frame_output(&frame),
         Err(refusal) => refusal_output(refusal),
     }
 }

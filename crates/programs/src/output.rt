@@ -8,14 +8,18 @@ ghost use Rattle.sheets.specs.Number.{decimal};
 ghost use Rattle.sheets.specs.Write.{sheet_text};
 ghost use Rattle.programs.specs.Output.{OUTPUT_BYTES, symbol_line, refusal_text, output_of};
 
+use super::FRAME;
 use super::symbols::set_characters;
 use sheets::write::{write_decimal, write_sheet};
 use words::refusal::Refusal;
 
+// Neither program prints more: the symbols of a frame and a newline.
+const OUTPUT_BYTES: usize = FRAME + 1;
+
 // The bytes printed, with zeros behind them, and how many they are.
 #[derive(Clone, Copy)]
 pub struct Output {
-    pub bytes: [u8; 1801],
+    pub bytes: [u8; OUTPUT_BYTES],
     pub size: usize,
 }
 
@@ -26,7 +30,7 @@ impl Output {
         ensures bytes { result.bytes ≡ replicate OUTPUT_BYTES 0 }
     {
         Output {
-            bytes: [0; 1801],
+            bytes: [0; OUTPUT_BYTES],
             size: 0,
         }
     }
@@ -79,11 +83,11 @@ impl Output {
 
 // `refused N at P` and a newline.
 pub(crate) fn refusal_output(refusal: Refusal) -> Output
-    ensures { (result ≡ output_of (refusal_text refusal.number refusal.place)) × (result.size ≤ OUTPUT_BYTES) }
+    ensures { result ≡ output_of (refusal_text refusal.number refusal.place) }
 {
     let mut output = Output::new();
     output.put(b"refused ");
-    output.put_number(refusal.number as u64);
+    output.put_number(u64::from(refusal.number));
     output.put(b" at ");
     output.put_number(refusal.place as u64);
     output.put(b"\n");

@@ -1,7 +1,7 @@
 // Symbols as characters: `0` and `1`.
-ghost use Rattle.std.specs.Prelude.{◌≡◌, length};
+ghost use Rattle.std.specs.Prelude.{◌≡◌, ◌<◌, length, MatchOption};
 ghost use Rattle.words.specs.Bits.{IsBits};
-ghost use Rattle.words.specs.Refusal.{left_by};
+ghost use Rattle.words.specs.Refusal.{given_by};
 ghost use Rattle.programs.specs.Symbols.{is_symbol, first_other, symbols_in, characters_of, symbols_answer};
 
 use words::refusal::{Refusal, Rule};
@@ -13,14 +13,14 @@ fn is_symbol(character: u8) -> bool
     (b'0'..=b'1').contains(&character)
 }
 
-// The index of the first character that is neither `0` nor `1`, or the length.
-fn first_other(characters: &[u8]) -> usize
-    ensures { result ≡ first_other characters.now }
+// The index of the first character that is neither `0` nor `1`.
+fn first_other(characters: &[u8]) -> Option<usize>
+    ensures { MatchOption result (first_other characters.now ≡ length characters.now)
+        (λ other. (first_other characters.now ≡ other) × (other < length characters.now)) }
 {
     characters
         .iter()
         .position(|character| !is_symbol(*character))
-        .unwrap_or(characters.len())
 }
 
 // Writes the symbols that characters `0` and `1` stand for.
@@ -33,22 +33,19 @@ fn set_symbols(characters: &[u8], symbols: &mut [u8])
     }
 }
 
-// The symbols that characters stand for, into as many bytes. Refused 1 at 0 for another length, 2 at the first character that is neither
-// `0` nor `1`.
-pub(crate) fn take_symbols(characters: &[u8], symbols: &mut [u8]) -> Result<(), Refusal>
-    ensures { (result ≡ symbols_answer (length symbols.old) characters.now)
-        × (symbols.new ≡ left_by (symbols_answer (length symbols.old) characters.now)
-        (symbols_in characters.now) symbols.old) }
+// The N symbols that characters stand for. Refused 1 at 0 for another length, 2 at the first character that is neither `0` nor `1`.
+pub(crate) fn take_symbols<const N: usize>(characters: &[u8]) -> Result<[u8; N], Refusal>
+    ensures { result ≡ given_by (symbols_answer N characters.now) (symbols_in characters.now) }
 {
-    if characters.len() != symbols.len() {
+    if characters.len() != N {
         return Err(Rule::Length.at(0));
     }
-    let other = first_other(characters);
-    if other != characters.len() {
+    if let Some(other) = first_other(characters) {
         return Err(Rule::NotABit.at(other));
     }
-    set_symbols(characters, symbols);
-    Ok(())
+    let mut symbols = [0u8; N];
+    set_symbols(characters, &mut symbols);
+    Ok(symbols)
 }
 
 // Writes symbols as characters over as many bytes.

@@ -1,14 +1,13 @@
 // The way back: reads a frame from standard input, and prints the page line and the sheet that the bench program would take.
 #![tactic(auto)]
 
+use programs::FRAME;
 use programs::reading::print_sheet;
 
-// Of input longer than a frame's 1800 characters and a newline, one byte more shows that it is.
+// Of input longer than a frame's characters and a newline, one byte more shows that it is.
 fn main() {
-    let mut input = [0u8; 1802];
+    let mut input = [0u8; FRAME + 2];
     let count = io::read_full(0, &mut input);
     let output = print_sheet(&input[..count]);
-    let bytes = output.bytes;
-    let size = output.size;
-    io::write_all(1, &bytes[..size]);
+    io::write_all(1, &output.bytes[..output.size]);
 }

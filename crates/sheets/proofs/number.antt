@@ -1,2 +1,2 @@
 -- The proofs of `number`, and the laws that they rest on.
-mod Laws
+pub mod Laws

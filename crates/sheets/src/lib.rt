@@ -2,7 +2,7 @@
 #![tactic(auto)]
 
 mod lines;
-mod list;
+pub mod list;
 mod number;
 pub mod sheet;
 pub mod text;

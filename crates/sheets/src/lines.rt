@@ -4,7 +4,7 @@ ghost use Rattle.sheets.specs.Laws.Steps.{named_line, line_read};
 
 use super::list::{LISTED, listed_field, name_position};
 use super::number::read_number;
-use super::text::find;
+use super::text::first;
 use words::refusal::Rule;
 
 // For each name of the list the number of its line, where there was one.
@@ -28,13 +28,7 @@ fn judge_named(k: usize, text: &[u8], found: &Found) -> Result<(usize, i64), Rul
 pub(crate) fn judge_line(line: &[u8], found: &Found) -> Result<(usize, i64), Rule>
     ensures { result ≡ line_read line.now found.now }
 {
-    let equals = find(line, b'=');
-    if equals == line.len() {
-        return Err(Rule::Line);
-    }
-    let from = equals + 1;
-    let Some(k) = name_position(&line[..equals]) else {
-        return Err(Rule::Name);
-    };
-    judge_named(k, &line[from..], found)
+    let equals = first(line, b'=').ok_or(Rule::Line)?;
+    let k = name_position(&line[..equals]).ok_or(Rule::Name)?;
+    judge_named(k, &line[equals + 1..], found)
 }

@@ -7,8 +7,8 @@ ghost use Rattle.sheets.specs.Laws.Steps.{listed_at};
 use fields::table::{Field, Table, field_at};
 use words::time::LAST_TOI;
 
-// How many names the list has.
-pub(crate) const LISTED: usize = 34;
+// How many names the list has: toi, and the 33 of subframe 2.
+pub const LISTED: usize = 34;
 
 // The names of the list, as specs/List.antt has them.
 pub(crate) static NAMES: [&[u8]; LISTED] = [

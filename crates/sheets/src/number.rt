@@ -1,12 +1,12 @@
 // Numbers of a sheet, read and written.
-ghost use Rattle.std.specs.Prelude.{◌≡◌, cond, ◌+◌, ◌-◌, ◌*◌, ◌≤◌, ◌<◌, min, length, Some, None};
-ghost use Rattle.std.proofs.lemmas.List.Edits.{sets};
+ghost use Rattle.std.specs.Prelude.{◌≡◌, cond, List, ℕ, ◌+◌, ◌-◌, ◌*◌, ◌≤◌, ◌<◌, min, drop, Some, None};
 ghost use Rattle.fields.specs.Counts.{in_range};
-ghost use Rattle.sheets.specs.Number.{decimal, numeral};
+ghost use Rattle.sheets.specs.Number.{decimal};
 ghost use Rattle.sheets.specs.Laws.Steps.{digits_read, plain_read, negative_read, positive_read, number_read};
 
 use fields::counts::in_range;
 use fields::table::Field;
+use std::marker::Model;
 
 // From here on a number is out of every field's range, and is told apart no further.
 const BEYOND: u64 = 1099511627776;
@@ -48,10 +48,7 @@ fn read_plain(text: &[u8]) -> Option<u64>
 fn within(field: Field, count: i64) -> Option<i64>
     ensures { result ≡ cond (in_range field count) (Some count) None }
 {
-    if in_range(field, count) {
-        return Some(count);
-    }
-    None
+    in_range(field, count).then_some(count)
 }
 
 // The number behind a `-`.
@@ -88,28 +85,40 @@ pub(crate) fn read_number(field: Field, text: &[u8]) -> Option<i64>
 
 // ---- writing
 
-// Writes the digits of a number from `at` on, and gives the place behind them.
-pub(crate) fn put_decimal(out: &mut [u8], at: usize, number: u64) -> usize
-    requires { at + length (decimal number) ≤ length out.old }
-    ensures { (result ≡ at + length (decimal number)) × (out.new ≡ sets out.old at (decimal number)) }
-{
-    if number < 10 {
-        out[at] = b'0' + number as u8;
-        return at + 1;
-    }
-    let end = put_decimal(&mut *out, at, number / 10);
-    out[end] = b'0' + (number % 10) as u8;
-    end + 1
+// The digits of a number, behind those of the bytes that it has no digit for.
+#[derive(Drop)]
+pub(crate) struct Digits {
+    bytes: [u8; 20],
+    from: usize,
 }
 
-// Writes a number from `at` on, and gives the place behind it.
-pub(crate) fn put_number(out: &mut [u8], at: usize, number: i64) -> usize
-    requires { at + length (numeral number) ≤ length out.old }
-    ensures { (result ≡ at + length (numeral number)) × (out.new ≡ sets out.old at (numeral number)) }
-{
-    if number < 0 {
-        out[at] = b'-';
-        return put_decimal(out, at + 1, number.unsigned_abs());
+impl Model for Digits {
+    ghost Value = { List ℕ };
+
+    ghost view = { λ digits. drop digits.from digits.bytes };
+
+    ghost invariant = { λ digits. digits.from ≤ 20 };
+}
+
+impl Digits {
+    pub(crate) fn of(number: u64) -> Digits
+        ensures { result ≡ decimal number }
+    {
+        let mut bytes = [0u8; 20];
+        let mut from = 19;
+        let mut rest = number;
+        while 10 <= rest {
+            bytes[from] = b'0' + (rest % 10) as u8;
+            from -= 1;
+            rest /= 10;
+        }
+        bytes[from] = b'0' + rest as u8;
+        Digits { bytes, from }
     }
-    put_decimal(out, at, number.unsigned_abs())
+
+    pub(crate) fn as_slice(&self) -> &[u8]
+        ensures { result.now ≡ self.now }
+    {
+        &self.bytes[self.from..]
+    }
 }

@@ -7,12 +7,11 @@ ghost use Rattle.sheets.specs.Laws.Steps.{finished_sheet};
 
 use super::lines::{Found, judge_line};
 use super::list::LISTED;
-use super::text::find;
-use super::trailer::sheet_start;
+use super::trailer::find_start;
 use words::refusal::{Refusal, Rule};
 
 // What reading a sheet gives: its numbers, toi's first, and how many bytes stand before it.
-#[derive(Clone, Copy)]
+#[derive(Clone, Copy, PartialEq, Eq)]
 pub struct Sheet {
     pub numbers: [i64; 34],
     pub before: usize,
@@ -53,21 +52,11 @@ fn read_lines(lines: &[u8], before: usize) -> Result<Sheet, Refusal>
 {
     let mut at: usize = 0;
     let mut found: Found = [None; LISTED];
-    while at < lines.len() {
-        let rest = &lines[at..];
-        let end = find(rest, b'\n');
-        if end == rest.len() {
-            return Err(Rule::Line.at(at));
-        }
-        match judge_line(&rest[..end], &found) {
-            Ok((k, number)) => {
-                found[k] = Some(number);
-                at = at + end + 1;
-            }
-            Err(rule) => {
-                return Err(rule.at(at));
-            }
-        }
+    for ended in lines.split_inclusive(|byte| *byte == b'\n') {
+        let line = ended.strip_suffix(b"\n").ok_or(Rule::Line.at(at))?;
+        let (k, number) = judge_line(line, &found).map_err(|rule| rule.at(at))?;
+        found[k] = Some(number);
+        at += ended.len();
     }
     finished_sheet(&found, before)
 }
@@ -77,12 +66,8 @@ fn read_lines(lines: &[u8], before: usize) -> Result<Sheet, Refusal>
 pub fn read_sheet(bytes: &[u8]) -> Result<Sheet, Refusal>
     ensures { result ≡ sheet_read bytes.now }
 {
-    let start = sheet_start(bytes);
-    if start == bytes.len() {
-        return Err(Rule::Trailer.at(0));
-    }
-    let end = bytes.len() - 11;
-    read_lines(&bytes[start..end], start)
+    let start = find_start(bytes).ok_or(Rule::Trailer.at(0))?;
+    read_lines(&bytes[start..bytes.len() - 11], start)
 }
 
 // The part of the bytes before the sheet at their end; empty, where it is refused.

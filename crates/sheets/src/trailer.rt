@@ -1,11 +1,10 @@
 // The trailer of a sheet.
-ghost use Rattle.std.specs.Prelude.{◌≡◌, ◌≤◌, ◌+◌, length};
-ghost use Rattle.std.proofs.lemmas.List.Edits.{sets};
+ghost use Rattle.std.specs.Prelude.{◌≡◌, ◌++◌, ◌≤◌, ◌+◌, length};
 ghost use Rattle.sheets.specs.Trailer.{TRAILER_BYTES, start_of, trailer_text};
-ghost use Rattle.sheets.specs.Laws.Steps.{count_read};
+ghost use Rattle.sheets.specs.Laws.Steps.{count_read, start_read};
 
 use super::number::read_digits;
-use super::text::put_bytes;
+use super::text::{SHEET_BYTES, SheetText};
 
 // What eleven bytes count, where they are a trailer.
 fn read_count(trailer: &[u8]) -> Option<u64>
@@ -18,35 +17,32 @@ fn read_count(trailer: &[u8]) -> Option<u64>
     read_digits(&trailer[5..10])
 }
 
-// Where the sheet at the end of the bytes begins; how many bytes there are, where they end with no trailer, with one over 4096, or with one
-// that points before the first byte.
+// Where the sheet at the end of the bytes begins, where they end with a trailer that is not over 4096 and does not point before the first byte.
+pub(crate) fn find_start(bytes: &[u8]) -> Option<usize>
+    ensures { result ≡ start_read bytes.now }
+{
+    let place = bytes.len().checked_sub(11)?;
+    let count = read_count(&bytes[place..])?;
+    let too_many = 4096 < count;
+    if too_many {
+        return None;
+    }
+    place.checked_sub(count as usize)
+}
+
+// The same, and how many bytes there are, where there is no such trailer.
 pub fn sheet_start(bytes: &[u8]) -> usize
     ensures { result ≡ start_of bytes.now }
 {
-    let none = bytes.len();
-    if none < 11 {
-        return none;
-    }
-    let place = none - 11;
-    let Some(count) = read_count(&bytes[place..]) else {
-        return none;
-    };
-    let too_many = 4096 < count;
-    if too_many {
-        return none;
-    }
-    let back = count as usize;
-    if place < back {
-        return none;
-    }
-    place - back
+    find_start(bytes).unwrap_or(bytes.len())
 }
 
-// Writes the trailer after `count` bytes from `at` on, and gives the place behind it.
-pub(crate) fn put_trailer(out: &mut [u8], at: usize, count: usize) -> usize
-    requires { at + TRAILER_BYTES ≤ length out.old }
-    ensures { (result ≡ at + TRAILER_BYTES) × (out.new ≡ sets out.old at (trailer_text count)) }
+// Puts the trailer behind the lines of a sheet.
+pub(crate) fn put_trailer(sheet: &mut SheetText)
+    requires { length sheet.old + TRAILER_BYTES ≤ SHEET_BYTES }
+    ensures { sheet.new ≡ sheet.old ++ trailer_text (length sheet.old) }
 {
+    let count = sheet.len();
     let trailer = [
         b'b',
         b'a',
@@ -60,5 +56,5 @@ pub(crate) fn put_trailer(out: &mut [u8], at: usize, count: usize) -> usize
         b'0' + (count % 10) as u8,
         b'\n',
     ];
-    put_bytes(out, at, &trailer)
+    sheet.put(&trailer);
 }

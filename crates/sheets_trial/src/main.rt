@@ -1,6 +1,5 @@
 // Calls the public functions of `sheets` with good, empty, short, long and garbage-filled slices and with extreme numbers, and prints a
-// line for each: what is expected, and whether it is so. The methods of `Walk` are the exception: `walk_back`, which is
-// called here, takes their step.
+// line for each: what is expected, and whether it is so. Of the methods of `Walk` it calls `next`; `walk_back`, which it calls too, looks.
 #![tactic(auto)]
 
 mod lines;

@@ -1,31 +1,24 @@
 // The functions of `sheets::sheet` on any bytes and on the sheet with every number 0.
-use super::zeros::{are_zeros, zero_sheet};
-use sheets::sheet::{before_sheet, read_sheet};
-use sheets::write::write_sheet;
+use super::zeros::zero_sheet;
+use sheets::sheet::{Sheet, before_sheet, read_sheet};
 use show::{done, expected, refused};
-use words::bits::copy;
 
-// A refusal, with zeros beside it and nothing before it.
+// A refusal, with no numbers beside it and nothing before it.
 pub(crate) fn not_read(text: &[u8], bytes: &[u8], number: u8, place: usize) {
-    let sheet = read_sheet(bytes);
-    let answer = sheet.answer;
-    let numbers = sheet.numbers;
-    refused(text, answer, number, place);
-    expected(
-        b"  and beside it are zeros",
-        sheet.before == 0 && are_zeros(&numbers) && before_sheet(bytes).len() == 0,
-    );
+    refused(text, &read_sheet(bytes), number, place);
+    expected(b"  and beside it are zeros", before_sheet(bytes).is_empty());
 }
 
 // Zeros, behind these bytes.
 fn zeros_behind(text: &[u8], bytes: &[u8], before: &[u8]) {
-    let sheet = read_sheet(bytes);
-    let answer = sheet.answer;
-    let numbers = sheet.numbers;
-    done(text, answer);
+    let read = read_sheet(bytes);
+    done(text, &read);
     expected(
         b"  with its numbers",
-        are_zeros(&numbers) && sheet.before == before.len(),
+        read == Ok(Sheet {
+            numbers: [0; 34],
+            before: before.len(),
+        }),
     );
     expected(
         b"  and before_sheet is what stands before it",
@@ -81,20 +74,18 @@ pub(crate) fn known() {
 
 // The sheet of zeros with the toi line a second time.
 fn toi_again() -> [u8; 249] {
-    let numbers = [0i64; 34];
-    let mut sheet = [0u8; 249];
-    write_sheet(&numbers, &mut sheet);
-    copy(b"toi=0\nback 00238\n", &mut sheet[232..249]);
-    sheet
+    let mut longer = [0u8; 249];
+    longer[..243].copy_from_slice(&zero_sheet());
+    longer[232..].copy_from_slice(b"toi=0\nback 00238\n");
+    longer
 }
 
 // The sheet of zeros twice.
 fn two_sheets() -> [u8; 486] {
-    let numbers = [0i64; 34];
     let sheet = zero_sheet();
     let mut file = [0u8; 486];
-    write_sheet(&numbers, &mut file);
-    copy(&sheet, &mut file[243..486]);
+    file[..243].copy_from_slice(&sheet);
+    file[243..].copy_from_slice(&sheet);
     file
 }
 

@@ -1,7 +1,6 @@
 // The function of `sheets::trailer`.
 use sheets::trailer::sheet_start;
 use show::expected;
-use words::bits::copy;
 
 fn starts(text: &[u8], bytes: &[u8], start: usize) {
     expected(text, sheet_start(bytes) == start);
@@ -41,7 +40,7 @@ pub(crate) fn counts() {
 // A trailer behind 4097 bytes.
 fn behind_many(trailer: &[u8; 11]) -> [u8; 4108] {
     let mut bytes = [10u8; 4108];
-    copy(trailer, &mut bytes[4097..4108]);
+    bytes[4097..].copy_from_slice(trailer);
     bytes
 }
 

@@ -1,43 +1,44 @@
-// The function of `sheets::walk` that takes plain bytes and a place.
-use super::zeros::are_zeros;
-use sheets::walk::walk_back;
+// The function of `sheets::walk` that takes plain bytes and a place, and where a walk goes on from there.
+use sheets::walk::{Walk, walk_back};
 use sheets::write::write_sheet;
-use show::{done, expected, refused};
+use show::{expected, is_refused};
+
+// The place of a walk from `place` behind its step.
+fn place_after(bytes: &[u8], place: usize) -> usize {
+    let mut walk = Walk { bytes, place };
+    walk.next();
+    walk.place
+}
 
 fn finishes(text: &[u8], bytes: &[u8], place: usize) {
-    let step = walk_back(bytes, place);
-    let numbers = step.numbers;
     expected(
         text,
-        step.finished && step.place == 0 && are_zeros(&numbers),
+        walk_back(bytes, place).is_none() && place_after(bytes, place) == 0,
     );
 }
 
 // Refused, and the place stays.
 fn stays(text: &[u8], bytes: &[u8], place: usize, number: u8, at: usize) {
-    let step = walk_back(bytes, place);
-    let answer = step.answer;
-    let numbers = step.numbers;
-    refused(text, answer, number, at);
     expected(
-        b"  and its place stays",
-        !step.finished && step.place == place && are_zeros(&numbers),
+        text,
+        matches!(walk_back(bytes, place), Some(step) if is_refused(&step, number, at)),
     );
+    expected(b"  and its place stays", place_after(bytes, place) == place);
 }
 
 // A sheet with this time, and zeros else.
 fn reads(text: &[u8], bytes: &[u8], place: usize, toi: i64, next: usize) {
-    let step = walk_back(bytes, place);
-    let answer = step.answer;
-    let mut numbers = step.numbers;
-    done(text, answer);
+    let Some(Ok(sheet)) = walk_back(bytes, place) else {
+        expected(text, false);
+        return;
+    };
+    expected(text, true);
     expected(
         b"  and its place is where the sheet begins",
-        !step.finished && step.place == next,
+        sheet.before == next && place_after(bytes, place) == next,
     );
-    expected(b"  with its time", numbers[0] == toi);
-    numbers[0] = 0;
-    expected(b"  and its other numbers", are_zeros(&numbers));
+    expected(b"  with its time", sheet.numbers[0] == toi);
+    expected(b"  and its other numbers", sheet.numbers[1..] == [0; 33]);
 }
 
 pub(crate) fn nothing() {
@@ -51,8 +52,8 @@ fn file() -> [u8; 488] {
     let mut numbers = [0i64; 34];
     let mut bytes = [0u8; 488];
     numbers[0] = 399;
-    write_sheet(&zeros, &mut bytes);
-    write_sheet(&numbers, &mut bytes[243..488]);
+    let _ = write_sheet(&zeros, &mut bytes);
+    let _ = write_sheet(&numbers, &mut bytes[243..]);
     bytes
 }
 

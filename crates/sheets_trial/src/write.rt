@@ -1,19 +1,17 @@
 // The function of `sheets::write`.
 ghost use Rattle.std.specs.Prelude.{◌<◌, ◌≤◌};
 
-use sheets::sheet::read_sheet;
+use sheets::sheet::{Sheet, read_sheet};
 use sheets::write::write_sheet;
-use show::{done, expected, is_done, refused};
-use words::bits::copy;
+use show::{done, expected, refused};
 
 // Over garbage, with bytes behind it.
 pub(crate) fn zero_sheet() {
     let numbers = [0i64; 34];
     let mut out = [7u8; 300];
     let written = write_sheet(&numbers, &mut out);
-    let answer = written.answer;
-    done(b"write_sheet of zeros is done", answer);
-    expected(b"  with 243 bytes", written.size == 243);
+    done(b"write_sheet of zeros is done", &written);
+    expected(b"  with 243 bytes", written == Ok(243));
     let (sheet, behind) = out.split_at(243);
     expected(
         b"  which begin with toi, wn and itow",
@@ -34,13 +32,8 @@ fn stays<const N: usize>(text: &[u8], numbers: &[i64], number: u8, place: usize)
     requires { N ≤ 300 }
 {
     let mut out = [7u8; N];
-    let written = write_sheet(numbers, &mut out);
-    let answer = written.answer;
-    refused(text, answer, number, place);
-    expected(
-        b"  and nothing is written",
-        written.size == 0 && out == [7; N],
-    );
+    refused(text, &write_sheet(numbers, &mut out), number, place);
+    expected(b"  and nothing is written", out == [7; N]);
 }
 
 fn stay_300(text: &[u8], numbers: &[i64], number: u8, place: usize) {
@@ -57,9 +50,7 @@ pub(crate) fn rooms() {
         0,
     );
     stays::<242>(b"  into 242 bytes too", &numbers, 16, 0);
-    let written = write_sheet(&numbers, &mut exact);
-    let answer = written.answer;
-    done(b"  into 243 done", answer);
+    done(b"  into 243 done", &write_sheet(&numbers, &mut exact));
 }
 
 pub(crate) fn numbers_refused() {
@@ -106,14 +97,17 @@ pub(crate) fn extreme() {
 // Written, and read again.
 fn is_read_again(text: &[u8], numbers: &[i64; 34]) {
     let mut out = [7u8; 244];
-    let mut bytes = [0u8; 243];
     let written = write_sheet(numbers, &mut out);
-    copy(&out[0..243], &mut bytes);
-    let sheet = read_sheet(&bytes);
-    let answer = sheet.answer;
-    let found = sheet.numbers;
-    expected(text, written.size == 243 && is_done(answer));
-    expected(b"  with the same numbers", found == *numbers);
+    let (sheet, _) = out.split_at(243);
+    let read = read_sheet(sheet);
+    expected(text, written == Ok(243) && read.is_ok());
+    expected(
+        b"  with the same numbers",
+        read == Ok(Sheet {
+            numbers: *numbers,
+            before: 0,
+        }),
+    );
 }
 
 // One digit each, so that the sheet has 243 bytes.

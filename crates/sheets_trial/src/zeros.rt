@@ -4,10 +4,6 @@ use sheets::write::write_sheet;
 pub(crate) fn zero_sheet() -> [u8; 243] {
     let numbers = [0i64; 34];
     let mut sheet = [0u8; 243];
-    write_sheet(&numbers, &mut sheet);
+    let _ = write_sheet(&numbers, &mut sheet);
     sheet
-}
-
-pub(crate) fn are_zeros(numbers: &[i64; 34]) -> bool {
-    *numbers == [0; 34]
 }

@@ -1,6 +1,6 @@
 // Passes over the ones of a coordinate table.
 ghost use Rattle.std.specs.Prelude.{◌≡◌, ◌-◌};
-ghost use Rattle.tables.specs.Coordinates.{ones, symbol_at, added_at, added, substituted, solved};
+ghost use Rattle.tables.specs.Coordinates.{ones, symbol_at, added_at, added, solved};
 
 // The index of the symbol with this number, counted from 1.
 fn index_of(number: u16) -> usize

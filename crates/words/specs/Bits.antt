@@ -4,7 +4,7 @@
 use Rattle.std.specs.Prelude.{Bool, cond, ◌&&◌, List, [], ◌∷◌, ℕ, zero, suc, ◌+◌, ◌-◌, ◌*◌, ◌/◌, ◌%◌, ◌^◌, ◌<◌, min, leb, ltb, eqb, ℤ, pos, negsuc, ◌-ℤ◌, length, get_or, take, drop}
 use Rattle.std.proofs.lemmas.List.Edits.{sets}
 use Rattle.std.specs.Int.Signed.{mag}
-use Rattle.words.specs.Refusal.{LENGTH, done_if, left_if, Answer}
+use Rattle.words.specs.Refusal.{LENGTH, NOT_A_BIT, done_if, left_if, Answer}
 
 -- every byte is 0 or 1
 pub record IsBits (l : List ℕ) : Type 0 where
@@ -14,6 +14,10 @@ pub record IsBits (l : List ℕ) : Type 0 where
 unfoldable pub first_not_bit : List ℕ → ℕ
 first_not_bit [] = 0
 first_not_bit (b ∷ l) = cond (ltb b 2) (suc (first_not_bit l)) 0
+
+-- judging that all bytes are bits: 2 at the first that is neither 0 nor 1
+abbrev pub bits_judged : List ℕ → Answer
+bits_judged l = done_if (eqb (first_not_bit l) (length l)) NOT_A_BIT (first_not_bit l)
 
 -- the number that bits stand for, the first the most significant; a byte that is no bit counts as its lowest one
 unfoldable pub value_of : List ℕ → ℕ

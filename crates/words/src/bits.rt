@@ -1,8 +1,8 @@
 // Bits, one to a byte, the most significant first, and the numbers that they stand for.
-ghost use Rattle.std.specs.Prelude.{◌≡◌, true, ◌&&◌, ◌+◌, ◌-◌, ◌%◌, ◌^◌, ◌≤◌, ◌<◌, pos, negsuc, eqb, leb, ltb, length};
+ghost use Rattle.std.specs.Prelude.{◌≡◌, true, ◌+◌, ◌-◌, ◌%◌, ◌^◌, ◌≤◌, ◌<◌, pos, negsuc, eqb, leb, ltb, length};
 ghost use Rattle.std.proofs.lemmas.List.Edits.{sets};
 ghost use Rattle.std.specs.Int.Signed.{mag};
-ghost use Rattle.words.specs.Bits.{first_not_bit, value_of, bits_of, signed_of, unsigned_of, bits_at, holds_signed, number_answer, number_bytes, signed_answer, signed_bytes, copy_answer, copy_bytes};
+ghost use Rattle.words.specs.Bits.{first_not_bit, bits_judged, value_of, bits_of, signed_of, unsigned_of, bits_at, holds_signed, number_answer, number_bytes, signed_answer, signed_bytes, copy_answer, copy_bytes};
 
 use super::refusal::{Refusal, Rule};
 
@@ -28,6 +28,17 @@ pub fn first_not_bit(bytes: &[u8]) -> usize
         .iter()
         .position(|byte| 1 < *byte)
         .unwrap_or(bytes.len())
+}
+
+// Whether all bytes are bits: refused 2 at the first that is neither 0 nor 1.
+pub fn judge_bits(bytes: &[u8]) -> Result<(), Refusal>
+    ensures { result ≡ bits_judged bytes.now }
+{
+    let bad = first_not_bit(bytes);
+    if bad != bytes.len() {
+        return Err(Rule::NotABit.at(bad));
+    }
+    Ok(())
 }
 
 // ---- taking

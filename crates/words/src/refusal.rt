@@ -2,6 +2,8 @@
 ghost use Rattle.std.specs.Prelude.{◌≡◌};
 ghost use Rattle.words.specs.Refusal.{number, refusal_at, refused_at};
 
+use std::fmt;
+
 // The rows of the table, in its order. What each is given for stands beside its number, in specs/Refusal.antt.
 #[derive(Clone, Copy, PartialEq, Eq)]
 pub enum Rule {
@@ -46,6 +48,12 @@ impl Rule {
 pub struct Refusal {
     pub number: u8,
     pub place: usize,
+}
+
+impl fmt::Display for Refusal {
+    fn fmt<W: fmt::Write>(&self, f: &mut fmt::Formatter<W>) -> fmt::Result {
+        write!(f, "refused {} at {}", self.number, self.place)
+    }
 }
 
 // Refuses with this number, at this place, whatever else would be given.

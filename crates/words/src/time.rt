@@ -3,7 +3,7 @@ ghost use Rattle.std.specs.Prelude.{◌≡◌, ◌^◌, ◌<◌, length};
 ghost use Rattle.words.specs.Bits.{bits_of};
 ghost use Rattle.words.specs.Time.{one_shift, time_word, time_answer, time_bytes, nearest_time, time_read};
 
-use super::bits::{first_not_bit, take_number};
+use super::bits::{judge_bits, take_number};
 use super::refusal::{Refusal, Rule};
 
 // The times are 0 to this one.
@@ -101,9 +101,6 @@ pub fn read_time(symbols: &[u8]) -> Result<Time, Refusal>
     if symbols.len() != 52 {
         return Err(Rule::Length.at(0));
     }
-    let place = first_not_bit(symbols);
-    if place != symbols.len() {
-        return Err(Rule::NotABit.at(place));
-    }
+    judge_bits(symbols)?;
     nearest_time(take_number(symbols, 0, 52))
 }

@@ -1,35 +1,31 @@
 // The functions of `words::bits`.
+ghost use Rattle.std.specs.Prelude.{◌≤◌};
+
 use show::{done, expected, refused};
 use words::bits::{
     copy, first_not_bit, magnitude, put_number, put_signed, take_number, take_signed,
 };
+use words::refusal::Refusal;
 
-fn number(text: &[u8], bytes: &[u8], at: usize, width: usize, n: u64) {
-    expected(text, take_number(bytes, at, width) == n);
-}
-
-fn signed(text: &[u8], bytes: &[u8], at: usize, width: usize, z: i64) {
-    expected(text, take_signed(bytes, at, width) == z);
-}
-
-// Refused 1 at 0, with every byte left at `byte`.
-fn put_refused(text: &[u8], byte: u8, at: usize, width: usize, n: u64) {
-    let mut row = [byte; 6];
-    refused(text, &put_number(&mut row, at, width, n), 1, 0);
-    expected(b"  and the bytes stay", row == [byte; 6]);
-}
-
-fn put_signed_refused(text: &[u8], byte: u8, at: usize, width: usize, z: i64) {
-    let mut row = [byte; 64];
-    refused(text, &put_signed(&mut row, at, width, z), 1, 0);
-    expected(b"  and the bytes stay", row == [byte; 64]);
+// Refused 1 at 0, with every byte left as it was.
+fn stays<const N: usize, F: FnOnce(&mut [u8]) -> Result<(), Refusal>>(
+    text: &[u8],
+    before: [u8; N],
+    put: F,
+)
+    requires size { N ≤ 64 }
+    requires callable { F.IsAlwaysCallable put }
+{
+    let mut row = before;
+    refused(text, &put(&mut row), 1, 0);
+    expected(b"  and the bytes stay", row == before);
 }
 
 // Put into garbage and read back.
 fn put_and_back(text: &[u8], at: usize, width: usize, z: i64) {
     let mut row = [254u8; 64];
     done(text, &put_signed(&mut row, at, width, z));
-    signed(b"  and it is read back", &row, at, width, z);
+    expected(b"  and it is read back", take_signed(&row, at, width) == z);
 }
 
 pub(crate) fn finding() {
@@ -55,105 +51,112 @@ pub(crate) fn taking() {
     let ones = [1u8; 100];
     let garbage = [254u8; 100];
     let four = [1u8, 0, 0, 1];
-    number(b"take_number of nothing is 0", &ones[0..0], 0, 8, 0);
-    number(b"take_number of no width is 0", &ones, 0, 0, 0);
-    number(b"take_number of 1 0 0 1 is 9", &four, 0, 4, 9);
-    number(b"take_number of the last two of them is 1", &four, 2, 2, 1);
-    number(
+    expected(
+        b"take_number of nothing is 0",
+        take_number(&ones[0..0], 0, 8) == 0,
+    );
+    expected(
+        b"take_number of no width is 0",
+        take_number(&ones, 0, 0) == 0,
+    );
+    expected(
+        b"take_number of 1 0 0 1 is 9",
+        take_number(&four, 0, 4) == 9,
+    );
+    expected(
+        b"take_number of the last two of them is 1",
+        take_number(&four, 2, 2) == 1,
+    );
+    expected(
         b"take_number past the end takes what is there",
-        &four,
-        2,
-        40,
-        1,
+        take_number(&four, 2, 40) == 1,
     );
-    number(b"take_number at the end is 0", &four, 4, 1, 0);
-    number(
+    expected(
+        b"take_number at the end is 0",
+        take_number(&four, 4, 1) == 0,
+    );
+    expected(
         b"take_number at the last place of all is 0",
-        &four,
-        usize::MAX,
-        usize::MAX,
-        0,
+        take_number(&four, usize::MAX, usize::MAX) == 0,
     );
-    number(
+    expected(
         b"take_number of 64 ones is the largest",
-        &ones,
-        36,
-        64,
-        u64::MAX,
+        take_number(&ones, 36, 64) == u64::MAX,
     );
-    number(
+    expected(
         b"take_number of more takes the first 64",
-        &ones,
-        0,
-        200,
-        u64::MAX,
+        take_number(&ones, 0, 200) == u64::MAX,
     );
-    number(b"take_number of bytes 254 is 0", &garbage, 3, 50, 0);
+    expected(
+        b"take_number of bytes 254 is 0",
+        take_number(&garbage, 3, 50) == 0,
+    );
 }
 
 pub(crate) fn taking_signed() {
     let ones = [1u8; 100];
     let mut least = [0u8; 100];
     least[0] = 1;
-    signed(b"take_signed of nothing is 0", &ones[0..0], 0, 8, 0);
-    signed(b"take_signed of one 1 is -1", &ones, 99, 1, -1);
-    signed(b"take_signed of one 0 is 0", &least, 1, 1, 0);
-    signed(
+    expected(
+        b"take_signed of nothing is 0",
+        take_signed(&ones[0..0], 0, 8) == 0,
+    );
+    expected(
+        b"take_signed of one 1 is -1",
+        take_signed(&ones, 99, 1) == -1,
+    );
+    expected(b"take_signed of one 0 is 0", take_signed(&least, 1, 1) == 0);
+    expected(
         b"take_signed of 13 bits, the first one, is -4096",
-        &least,
-        0,
-        13,
-        -4096,
+        take_signed(&least, 0, 13) == -4096,
     );
-    signed(
+    expected(
         b"take_signed of 33 bits, the first one, is -4294967296",
-        &least,
-        0,
-        33,
-        -4294967296,
+        take_signed(&least, 0, 33) == -4294967296,
     );
-    signed(b"take_signed of 33 ones is -1", &ones, 7, 33, -1);
-    signed(
+    expected(
+        b"take_signed of 33 ones is -1",
+        take_signed(&ones, 7, 33) == -1,
+    );
+    expected(
         b"take_signed of 64 bits, the first one, is the least",
-        &least,
-        0,
-        64,
-        i64::MIN,
+        take_signed(&least, 0, 64) == i64::MIN,
     );
-    signed(
+    expected(
         b"take_signed of more takes the first 64",
-        &least,
-        0,
-        usize::MAX,
-        i64::MIN,
+        take_signed(&least, 0, usize::MAX) == i64::MIN,
     );
-    signed(b"take_signed past the end is 0", &ones, 100, 5, 0);
-    signed(
+    expected(
+        b"take_signed past the end is 0",
+        take_signed(&ones, 100, 5) == 0,
+    );
+    expected(
         b"take_signed at the last place of all is 0",
-        &ones,
-        usize::MAX,
-        5,
-        0,
+        take_signed(&ones, usize::MAX, 5) == 0,
     );
 }
 
 pub(crate) fn putting() {
     let mut row = [7u8; 6];
-    put_refused(b"put_number past the end is refused 1 at 0", 7, 4, 3, 0);
-    put_refused(
-        b"put_number at the last place of all is refused 1 at 0",
-        1,
-        usize::MAX,
-        1,
-        0,
+    stays(
+        b"put_number past the end is refused 1 at 0",
+        [7; 6],
+        |row| put_number(row, 4, 3, 0),
     );
-    put_refused(b"put_number of width 200 is refused 1 at 0", 255, 0, 200, 0);
-    put_refused(
+    stays(
+        b"put_number at the last place of all is refused 1 at 0",
+        [1; 6],
+        |row| put_number(row, usize::MAX, 1, 0),
+    );
+    stays(
+        b"put_number of width 200 is refused 1 at 0",
+        [255; 6],
+        |row| put_number(row, 0, 200, 0),
+    );
+    stays(
         b"put_number of 8 in three bits is refused 1 at 0",
-        0,
-        0,
-        3,
-        8,
+        [0; 6],
+        |row| put_number(row, 0, 3, 8),
     );
     refused(
         b"put_number into nothing is refused 1 at 0",
@@ -181,34 +184,43 @@ pub(crate) fn putting_wide() {
         b"put_number of the largest in 70 bits is done",
         &put_number(&mut wide, 5, 70, u64::MAX),
     );
-    number(b"  and it is read back", &wide, 11, 64, u64::MAX);
-    number(b"  with zeros before it", &wide, 5, 6, 0);
+    expected(
+        b"  and it is read back",
+        take_number(&wide, 11, 64) == u64::MAX,
+    );
+    expected(b"  with zeros before it", take_number(&wide, 5, 6) == 0);
 }
 
 pub(crate) fn putting_signed() {
-    put_signed_refused(b"put_signed of no width is refused 1 at 0", 9, 0, 0, 0);
-    put_signed_refused(b"put_signed of width 65 is refused 1 at 0", 9, 0, 65, 0);
-    put_signed_refused(
+    stays(
+        b"put_signed of no width is refused 1 at 0",
+        [9; 64],
+        |row| put_signed(row, 0, 0, 0),
+    );
+    stays(
+        b"put_signed of width 65 is refused 1 at 0",
+        [9; 64],
+        |row| put_signed(row, 0, 65, 0),
+    );
+    stays(
         b"put_signed of -4097 in 13 bits is refused 1 at 0",
-        9,
-        0,
-        13,
-        -4097,
+        [9; 64],
+        |row| put_signed(row, 0, 13, -4097),
     );
-    put_signed_refused(
+    stays(
         b"put_signed of 4096 in 13 bits is refused 1 at 0",
-        9,
-        0,
-        13,
-        4096,
+        [9; 64],
+        |row| put_signed(row, 0, 13, 4096),
     );
-    put_signed_refused(b"put_signed past the end is refused 1 at 0", 9, 60, 5, 0);
-    put_signed_refused(
+    stays(
+        b"put_signed past the end is refused 1 at 0",
+        [9; 64],
+        |row| put_signed(row, 60, 5, 0),
+    );
+    stays(
         b"put_signed at the last place of all is refused 1 at 0",
-        9,
-        usize::MAX,
-        usize::MAX,
-        -1,
+        [9; 64],
+        |row| put_signed(row, usize::MAX, usize::MAX, -1),
     );
     put_and_back(b"put_signed of -4096 in 13 bits is done", 3, 13, -4096);
     put_and_back(
@@ -226,39 +238,38 @@ pub(crate) fn putting_signed() {
     );
 }
 
-fn of_magnitude(text: &[u8], z: i64, n: u64) {
-    expected(text, magnitude(z) == n);
-}
-
 pub(crate) fn magnitudes() {
-    of_magnitude(b"magnitude of 0 is 0", 0, 0);
-    of_magnitude(b"magnitude of -1 is 0", -1, 0);
-    of_magnitude(b"magnitude of 4096 is 4096", 4096, 4096);
-    of_magnitude(b"magnitude of -4096 is 4095", -4096, 4095);
-    of_magnitude(
+    expected(b"magnitude of 0 is 0", magnitude(0) == 0);
+    expected(b"magnitude of -1 is 0", magnitude(-1) == 0);
+    expected(b"magnitude of 4096 is 4096", magnitude(4096) == 4096);
+    expected(b"magnitude of -4096 is 4095", magnitude(-4096) == 4095);
+    expected(
         b"magnitude of the most is itself",
-        i64::MAX,
-        9223372036854775807,
+        magnitude(i64::MAX) == i64::MAX as u64,
     );
-    of_magnitude(
+    expected(
         b"magnitude of the least is that too",
-        i64::MIN,
-        9223372036854775807,
+        magnitude(i64::MIN) == i64::MAX as u64,
     );
-}
-
-// Refused 1 at 0, with four bytes left at 9.
-fn copy_refused(text: &[u8], from: &[u8]) {
-    let mut row = [9u8; 4];
-    refused(text, &copy(from, &mut row), 1, 0);
-    expected(b"  and the bytes stay", row == [9; 4]);
 }
 
 pub(crate) fn not_copying() {
     let from = [0u8, 1, 255, 2, 3];
-    copy_refused(b"copy of 5 bytes over 4 is refused 1 at 0", &from);
-    copy_refused(b"copy of 3 bytes over 4 too", &from[0..3]);
-    copy_refused(b"copy of nothing over 4 too", &from[0..0]);
+    stays(
+        b"copy of 5 bytes over 4 is refused 1 at 0",
+        [9; 4],
+        |row| copy(&from, row),
+    );
+    stays(
+        b"copy of 3 bytes over 4 too",
+        [9; 4],
+        |row| copy(&from[0..3], row),
+    );
+    stays(
+        b"copy of nothing over 4 too",
+        [9; 4],
+        |row| copy(&from[0..0], row),
+    );
 }
 
 pub(crate) fn copying() {

@@ -2,29 +2,30 @@
 use show::{done, expected, refused};
 use words::crc::{check_bits, is_right, put_check, remainder};
 
-fn check(text: &[u8], bits: &[u8], n: u32) {
-    expected(text, check_bits(bits) == n);
-}
-
 pub(crate) fn known() {
     let mut bits = [0u8; 576];
-    check(b"check_bits of 576 zeros is 000000", &bits, 0);
+    expected(b"check_bits of 576 zeros is 000000", check_bits(&bits) == 0);
     bits[575] = 1;
-    check(b"check_bits with bit 576 set is 864CFB", &bits, 0x864CFB);
+    expected(
+        b"check_bits with bit 576 set is 864CFB",
+        check_bits(&bits) == 0x864CFB,
+    );
     bits[575] = 0;
     bits[574] = 1;
-    check(b"check_bits with bit 575 set is 8AD50D", &bits, 0x8AD50D);
+    expected(
+        b"check_bits with bit 575 set is 8AD50D",
+        check_bits(&bits) == 0x8AD50D,
+    );
 }
 
 pub(crate) fn extreme() {
     let even = [254u8; 1000];
     let one = [255u8; 1];
-    check(b"check_bits of nothing is 0", &even[0..0], 0);
-    check(b"check_bits of bytes 254 is 0", &even, 0);
-    check(
+    expected(b"check_bits of nothing is 0", check_bits(&even[0..0]) == 0);
+    expected(b"check_bits of bytes 254 is 0", check_bits(&even) == 0);
+    expected(
         b"check_bits of one byte 255 is that of a one",
-        &one,
-        0x864CFB,
+        check_bits(&one) == 0x864CFB,
     );
     expected(b"remainder of nothing is 0", remainder(&even[0..0]) == 0);
     expected(b"remainder of one byte 255 is 1", remainder(&one) == 1);

@@ -9,10 +9,6 @@ fn read(text: &[u8], symbols: &[u8], toi: u16, corrected: u32) {
     expected(text, read_time(symbols) == Ok(Time { toi, corrected }));
 }
 
-fn not_read(text: &[u8], symbols: &[u8], number: u8, place: usize) {
-    refused(text, &read_time(symbols), number, place);
-}
-
 // Written over garbage, as a number of 52 bits, and read back with nothing corrected.
 fn word(text: &[u8], toi: u16, symbols: u64) {
     let mut out = [9u8; 52];
@@ -82,12 +78,37 @@ pub(crate) fn writing_elsewhere() {
 pub(crate) fn reading() {
     let garbage = [255u8; 60];
     let mut symbols = [0u8; 52];
-    not_read(b"nothing is refused 1 at 0", &garbage[0..0], 1, 0);
-    not_read(b"51 symbols are refused 1 at 0", &garbage[0..51], 1, 0);
-    not_read(b"53 symbols are refused 1 at 0", &garbage[0..53], 1, 0);
-    not_read(b"garbage is refused 2 at 0", &garbage[0..52], 2, 0);
+    refused(
+        b"nothing is refused 1 at 0",
+        &read_time(&garbage[0..0]),
+        1,
+        0,
+    );
+    refused(
+        b"51 symbols are refused 1 at 0",
+        &read_time(&garbage[0..51]),
+        1,
+        0,
+    );
+    refused(
+        b"53 symbols are refused 1 at 0",
+        &read_time(&garbage[0..53]),
+        1,
+        0,
+    );
+    refused(
+        b"garbage is refused 2 at 0",
+        &read_time(&garbage[0..52]),
+        2,
+        0,
+    );
     symbols[51] = 2;
-    not_read(b"a last byte 2 is refused 2 at 51", &symbols, 2, 51);
+    refused(
+        b"a last byte 2 is refused 2 at 51",
+        &read_time(&symbols),
+        2,
+        51,
+    );
 }
 
 // The first nine symbols of 0's word turned are borne; with the tenth no time is near.
@@ -99,7 +120,7 @@ pub(crate) fn turned() {
     );
     read(b"nine turned are read as 0 with 9", &symbols, 0, 9);
     symbols[9] = 1;
-    not_read(b"ten turned are refused 3 at 0", &symbols, 3, 0);
+    refused(b"ten turned are refused 3 at 0", &read_time(&symbols), 3, 0);
 }
 
 pub(crate) fn no_times() {

@@ -3,19 +3,18 @@
 use mathlib.Core.Path.{◌≡◌, refl, sym, ap, ap₂, ◌∙◌}
 use mathlib.Core.Bool.{true, false, ◌&&◌, and-eq-true_iff}
 use mathlib.Core.List.{List, ◌++◌, append-nil}
-use mathlib.Core.Logic.{◌≢◌}
 use Prim.Native.Nat.{ℕ, ◌-◌, ◌≤◌, ◌<◌}
 use native.Mathlib.Omega.{arith}
 use lib.Dec.{eqb}
 use lib.IntN.{ℤ}
 use lib.ListN.{length, take, drop, length-append, length-drop, drop_of_length-le}
 use lib.Seq.{take_at, length-take-le}
-use borrow.Author.Tests.{eqb-true, eq-eqb, ne_eqb, le-leb, lt-leb}
-use Rattle.words.specs.Bits.{IsBits, first_not_bit}
+use borrow.Author.Tests.{eqb-true, eq-eqb, le-leb, lt-leb}
+use Rattle.words.specs.Bits.{IsBits, bits_judged, first_not_bit}
 use Rattle.words.specs.Time.{time_word, time_answer, time_bytes}
-use Rattle.words.specs.Refusal.{LENGTH, NOT_A_BIT, TIME, FIELD_2, refused_at, in_turn, left_by, Answer, Done}
+use Rattle.words.specs.Refusal.{LENGTH, TIME, FIELD_2, refused_at, in_turn, left_by, Answer, Done}
 use Rattle.words.specs.declared.refusal.Refusal.{Refusal}
-use Rattle.words.specs.Laws.Turns.{test_done}
+use Rattle.words.specs.Laws.Turns.{test_done, judged_turns}
 use Rattle.words.specs.Laws.Words.{word_length}
 use Rattle.parity.specs.InOrder.{interleave_done}
 use Rattle.parity.specs.Order.{interleaved, interleave_answer, interleave_bytes}
@@ -23,11 +22,10 @@ use Rattle.fields.specs.Table.{fields_in}
 use Rattle.fields.specs.Counts.{first_out}
 use Rattle.fields.specs.FieldsBack.{length_bits2}
 use Rattle.fields.specs.Subframe2.{bits2, counts_answer, fields_written, fields_bytes}
-use Rattle.fields.specs.Pages.{range_answer, page_answer}
-use Rattle.fields.specs.Laws.Answers.{judged_right}
+use Rattle.fields.specs.Pages.{range_answer}
 use Rattle.fields.specs.Laws.Table.{count_subframe2}
 use Rattle.fields.specs.declared.table.Table.TheVariants.{Subframe2}
-use Rattle.frames.specs.Build.{contents_of, build_lengths, build_answer, build_bytes}
+use Rattle.frames.specs.Build.{contents_of, contents_answer, build_lengths, build_answer, build_bytes}
 use Rattle.frames.specs.Frame.{Contents, frame_of}
 use Rattle.frames.specs.Laws.Steps.{symbols_from}
 use Rattle.std.specs.Prelude.{Err}
@@ -105,10 +103,6 @@ module _ (zs : List ℤ) (two : List ℕ) (many : length zs ≡ 33) (wide : leng
       e ∙ rw (eq-eqb (length zs) 33 many, eq-eqb (length (take 576 two)) 576 part_576, test_done (eqb out 0) FIELD_2 out done) refl in
       take_at d (drop 576 two) 576 (ap length put ∙ length_bits2 zs (many ∙ sym count_subframe2)) ∙ put
 
--- 250 page bits are judged by their fields alone
-pub page_judged : (l : List ℕ) → length l ≡ 250 → IsBits l → page_answer l ≡ range_answer l
-page_judged l long bits = judged_right 250 (length l) l (range_answer l) long bits
-
 -- ---- two judgements in turn: what is answered, and what is left in the frame
 
 module _ (a b x : Answer) (new out f : List ℕ) where
@@ -142,8 +136,10 @@ module _ (toi : ℕ) (zs : List ℤ) (page f : List ℕ) where
   wrong_sizes x e g = rw e (g, refl)
 
   module _ (x : Answer) (sizes : build_lengths contents f ≡ true) where
-    pub wrong_byte : first_not_bit page ≢ length page → x ≡ refused_at NOT_A_BIT (first_not_bit page) → Built x f
-    wrong_byte e g = rw (sizes, ne_eqb (first_not_bit page) (length page) e) (g, refl)
+    pub wrong_byte : (r : Refusal) → bits_judged page ≡ Err r → x ≡ Err r → Built x f
+    wrong_byte r e g =
+        rw (judged_turns (build_lengths contents f) (eqb (first_not_bit page) (length page)) (first_not_bit page) (contents_answer contents), sizes, e)
+        (g, refl)
 
     module _ (bits : first_not_bit page ≡ length page) where
       pub wrong_time : 399 < toi → x ≡ refused_at TIME 0 → Built x f

@@ -2,37 +2,35 @@
 -- Assumes nothing.
 use mathlib.Core.Path.{◌≡◌, refl, sym, ap, ap₂, ◌∙◌}
 use mathlib.Core.List.{List}
-use Prim.Native.Nat.{ℕ, ◌+◌, ◌-◌, ◌≤◌}
+use Rattle.std.specs.Prelude.{ℤ}
+use Prim.Native.Nat.{ℕ, ◌+◌, ◌≤◌}
 use native.Mathlib.Omega.{arith}
-use lib.ListN.{length, take, drop, length-drop}
+use lib.ListN.{length, take}
 use lib.Seq.{length-take-le}
 use Rattle.words.specs.Bits.{IsBits}
 use Rattle.words.specs.Refusal.{in_turn, number_of, Answer, Done, answer_of, given_by}
 use Rattle.words.specs.Time.{time_read, toi_read, corrected_read}
-use Rattle.words.specs.Laws.Digits.{bits_take, bits_drop}
-use Rattle.words.specs.Laws.Turns.{Answered, done, refused, answered, both_done, not_done, given_answer}
+use Rattle.words.specs.Laws.Digits.{bits_take}
+use Rattle.words.specs.Laws.Turns.{Answered, done, refused, answered, both_done, not_done, given_ok}
 use Rattle.words.specs.declared.refusal.Refusal.{Refusal}
 use Rattle.words.specs.declared.time.Time.{Time}
 use Rattle.tables.specs.Matrix.{matrix_of}
 use Rattle.tables.specs.declared.matrix.Subframe.{Subframe}
 use Rattle.tables.specs.declared.matrix.Subframe.TheVariants.{Two, Three}
 use Rattle.parity.specs.Equations.{data_of, met_answer}
-use Rattle.parity.specs.InOrder.{deinterleave_done}
 use Rattle.parity.specs.Judged.{done_met}
-use Rattle.parity.specs.Order.{SYMBOLS_2, SYMBOLS_3, deinterleave_answer, deinterleave_block2, deinterleave_block3}
-use Rattle.parity.specs.Laws.Parts.{rest_part}
 use Rattle.fields.specs.Table.{fields_in}
 use Rattle.fields.specs.Counts.{counts_in}
 use Rattle.fields.specs.Subframe2.{BITS_2, fields_answer, fields_read}
-use Rattle.fields.specs.Pages.{PAGE_BITS, range_answer, page_answer}
+use Rattle.fields.specs.Pages.{PAGE_BITS, range_answer}
 use Rattle.fields.specs.Laws.Answers.{judged_right}
 use Rattle.fields.specs.declared.table.Table.TheVariants.{Subframe2}
-use Rattle.frames.specs.Frame.{FRAME, TIME_SYMBOLS, time_in, ordered_in, subframe_in, bits_before, bits_in}
-use Rattle.frames.specs.Read.{check_bits_answer, ranges_answer, subframe_answer, frame_judged, contents_in, frame_is, frame_read, time_alone, subframe2_alone, subframe3_alone}
+use Rattle.frames.specs.Frame.{FRAME, time_in, subframe_in, bits_before, bits_in}
+use Rattle.frames.specs.Read.{check_bits_answer, ranges_answer, subframe_answer, frame_judged, contents_in, frame_is, frame_read, time_alone}
 use Rattle.frames.specs.Laws.Blocks.{check_fits}
 use Rattle.frames.specs.Laws.Reading.{lent_on, lent_done}
 use Rattle.frames.specs.Laws.Steps.{block_answer, counts_from, page_from, frame_from, turns}
-use Rattle.std.specs.Prelude.{Err, Ok, Result}
+use Rattle.std.specs.Prelude.{Ok, Result}
 
 -- ---- a block
 
@@ -69,27 +67,15 @@ counts_done y e =
 pub page_done : (y : List ℕ) → block_answer Three y ≡ Done → given_by (range_answer (take PAGE_BITS y)) (take PAGE_BITS y) ≡ page_from y
 page_done y e = sym (ap (λ (a : Answer). given_by a (take PAGE_BITS y)) (block_then Three y Done e))
 
--- 250 page bits are judged by their fields alone
-pub page_judged : (l : List ℕ) → length l ≡ PAGE_BITS → IsBits l → page_answer l ≡ range_answer l
-page_judged l long bits = judged_right PAGE_BITS (length l) l (range_answer l) long bits
-
--- a frame of blocks, of which one or none is refused
-module _ (time : Time) (two three : List ℕ) where
-  pub two_refuses : (r : Refusal) → counts_from two ≡ Err r → frame_from time two three ≡ Err r
-  two_refuses r e = rw (sym (given_answer (subframe_answer Two two) _) ∙ ap answer_of e) refl
+-- the frame of a time and of blocks whose counts and page bits are read
+pub frame_made : (time : Time) (two three : List ℕ) (counts : List ℤ) (page : List ℕ) → counts_from two ≡ Ok counts → page_from three ≡ Ok page
+    → frame_from time two three ≡ Ok (record { toi = time.toi; corrected = time.corrected; counts = counts; page = page })
+frame_made time two three counts page e f =
+    let second = given_ok (subframe_answer Two two) _ counts e in
+    let third = given_ok (subframe_answer Three three) _ page f in
+    rw (second.0, third.0, second.1, third.1) refl
 
 -- ---- a frame
-
-pub two_done : (f : List ℕ) → frame_judged f Done ≡ Done → counts_from (subframe_in Two f) ≡ subframe2_alone f
-two_done f e =
-    let lent = lent_done f Done e in
-    sym (ap (λ (a : Answer). given_by a (counts_in (fields_in Subframe2) (bits_in Two f)))
-    (lent_on f lent.0 lent.1 (subframe_answer Two (subframe_in Two f))))
-
-pub three_done : (f : List ℕ) → frame_judged f Done ≡ Done → page_from (subframe_in Three f) ≡ subframe3_alone f
-three_done f e =
-    let lent = lent_done f Done e in
-    sym (ap (λ (a : Answer). given_by a (bits_in Three f)) (lent_on f lent.0 lent.1 (subframe_answer Three (subframe_in Three f))))
 
 module _ (f : List ℕ) (t : Time) (found : time_alone f ≡ Ok t) where
   -- where the time alone is read, 1800 symbols are lent, and it is their time
@@ -116,34 +102,3 @@ module _ (f : List ℕ) (t : Time) (found : time_alone f ≡ Ok t) where
       ∙ ap (λ (r : Result Time Refusal). in_turn (answer_of r) after_time) lent.2)
       (ap (λ (r : Result Time Refusal). frame_is
       (record { toi = toi_read r; counts = counts_in (fields_in Subframe2) (bits_in Two f); page = bits_in Three f }) (corrected_read r)) lent.2))
-
--- the symbols behind the time, taken apart
-module _ (f : List ℕ) (long : length f ≡ FRAME) (bits : IsBits f) where
-  symbols : List ℕ
-  symbols = take (length f - TIME_SYMBOLS) (ordered_in f)
-
-  symbols_are : symbols ≡ ordered_in f
-  unfolding symbols
-  symbols_are = rest_part TIME_SYMBOLS f
-
-  apart : (old2 old3 : List ℕ) → length old2 ≡ SYMBOLS_2 → length old3 ≡ SYMBOLS_3
-      → (deinterleave_answer (ordered_in f) old2 old3 ≡ Done)
-      × (deinterleave_block2 (ordered_in f) old2 old3 ≡ subframe_in Two f) × (deinterleave_block3 (ordered_in f) old2 old3 ≡ subframe_in Three f)
-  apart old2 old3 two three =
-      deinterleave_done (ordered_in f) old2 old3
-      (record { two = two; three = three; both = length-drop TIME_SYMBOLS f ∙ omega arith }) (bits_drop TIME_SYMBOLS f bits)
-
-  pub both_taken : (old2 old3 : List ℕ) → length old2 ≡ SYMBOLS_2 → length old3 ≡ SYMBOLS_3
-      → deinterleave_answer (take (length f - TIME_SYMBOLS) (drop TIME_SYMBOLS f)) old2 old3 ≡ Done
-  unfolding symbols
-  both_taken old2 old3 two three = ap (λ (l : List ℕ). deinterleave_answer l old2 old3) symbols_are ∙ (apart old2 old3 two three).0
-
-  pub first_taken : (old2 old3 : List ℕ) → length old2 ≡ SYMBOLS_2 → length old3 ≡ SYMBOLS_3
-      → deinterleave_block2 (take (length f - TIME_SYMBOLS) (drop TIME_SYMBOLS f)) old2 old3 ≡ subframe_in Two f
-  unfolding symbols
-  first_taken old2 old3 two three = ap (λ (l : List ℕ). deinterleave_block2 l old2 old3) symbols_are ∙ (apart old2 old3 two three).1
-
-  pub second_taken : (old2 old3 : List ℕ) → length old2 ≡ SYMBOLS_2 → length old3 ≡ SYMBOLS_3
-      → deinterleave_block3 (take (length f - TIME_SYMBOLS) (drop TIME_SYMBOLS f)) old2 old3 ≡ subframe_in Three f
-  unfolding symbols
-  second_taken old2 old3 two three = ap (λ (l : List ℕ). deinterleave_block3 l old2 old3) symbols_are ∙ (apart old2 old3 two three).2

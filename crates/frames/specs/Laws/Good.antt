@@ -11,14 +11,19 @@ use Rattle.fields.specs.Table.{fields_in, bit_count}
 use Rattle.fields.specs.Counts.{counts_in, bits_of_counts, AllInRange, first_out}
 use Rattle.fields.specs.CountsBack.{length_counts, counts_back, count_bits_back, none_out, in_range_none_out}
 use Rattle.fields.specs.FieldsBack.{length_bits2, bits2_are, with_spare}
-use Rattle.fields.specs.Pages.{HEAD_BITS, number_in, kind_of, page_fields, page_counts, range_answer}
+use Rattle.fields.specs.Pages.{PAGE_BITS, HEAD_BITS, page_answer, number_in, kind_of, page_fields, page_counts, range_answer}
 use Rattle.fields.specs.Subframe2.{fields2, bits2, first_out2, fields_answer}
+use Rattle.fields.specs.Laws.Answers.{judged_right}
 use Rattle.fields.specs.Laws.Subframe2.{spare, bits_fields2, usable_fields2, counts_fields2, first_out2_lem, neither_out}
 use Rattle.fields.specs.Laws.Pages.{one_asked, only_one_out}
 use Rattle.fields.specs.declared.table.Table.TheVariants.{Subframe2, Page1}
 use Rattle.frames.specs.Frame.{Contents, GoodContents, bits_before, bits_from}
 use Rattle.frames.specs.Laws.Blocks.{HaveBits}
 use Rattle.words.specs.Laws.Turns.{test_done}
+
+-- 250 page bits are judged by their fields alone
+pub page_judged : (l : List ℕ) → length l ≡ PAGE_BITS → IsBits l → page_answer l ≡ range_answer l
+page_judged l long bits = judged_right PAGE_BITS (length l) l (range_answer l) long bits
 
 pub good_bits : (c : Contents) → GoodContents c → HaveBits c
 good_bits c good = record { many = many; are = are }

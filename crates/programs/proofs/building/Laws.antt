@@ -1,87 +1,65 @@
 -- The input of the bench program, judged part by part.
 -- Assumes nothing.
-use mathlib.Core.Path.{◌≡◌, refl, sym, ap, ◌∙◌, subst}
+use mathlib.Core.Bool.{true}
+use mathlib.Core.Path.{◌≡◌, refl, sym, ap, ap₂, ◌∙◌, subst}
 use mathlib.Core.List.{List}
-use Prim.Native.Nat.{ℕ, ◌+◌, ◌-◌, ◌≤◌, ◌<◌}
+use Prim.Native.Nat.{ℕ, ◌+◌, ◌≤◌, ◌<◌}
 use native.Mathlib.Omega.{arith}
-use lib.Dec.{eqb, ltb}
+use lib.Dec.{eqb}
 use lib.IntN.{ℤ, pos}
-use lib.ListN.{length, get_or, take, drop, length-drop}
-use lib.Seq.{take_all, length-take-le}
-use lib.Signed.{mag}
-use borrow.Author.Tests.{ltb-true, lt-ltb, le-ltb, le-leb, lt-leb, eq-eqb, ne_eqb}
+use lib.ListN.{length, get_or, drop, length-drop}
+use Rattle.std.proofs.lemmas.List.{drop-drop}
+use lib.Signed.{mag, non_neg}
+use lib.Dec.{T}
+use lib.IntN.{nat_abs, negsuc}
+use mir.Syntax.{w16, w64}
+use mir.Val.{to_z, of_z, Fits}
+use Rattle.std.proofs.lemmas.Int.{to_z_pos}
+use borrow.Author.Tests.{lt-ltb, le-ltb, le-leb, lt-leb, eq-eqb}
 use Rattle.words.specs.Bits.{IsBits, first_not_bit}
-use Rattle.words.specs.Refusal.{LENGTH, TRAILER, refused_at, done_if, left_by, Answer, Done, answer_of}
+use Rattle.words.specs.Refusal.{LENGTH, refused_at, given_by, Answer, Done, answer_of}
 use Rattle.words.specs.Time.{LAST_TOI}
 use Rattle.words.specs.Laws.Digits.{bits_none}
-use Rattle.words.specs.Laws.Turns.{both_done, test_done, judged_on}
+use Rattle.words.specs.Laws.Turns.{given_answer, given_ok, judged_on}
 use Rattle.words.specs.declared.refusal.Refusal.{Refusal}
 use Rattle.fields.specs.Subframe2.{COUNTS_2}
 use Rattle.fields.specs.Pages.{PAGE_BITS}
 use Rattle.frames.specs.Frame.{Contents, FRAME, frame_of}
-use Rattle.frames.specs.Build.{contents_of, build_lengths, contents_answer, build_answer}
+use Rattle.frames.specs.Build.{contents_of, build_lengths, contents_answer, build_answer, build_bytes}
 use Rattle.frames.specs.Built.{built_right}
 use Rattle.sheets.specs.Text.{LINE_END, index_of}
-use Rattle.sheets.specs.List.{NUMBERS}
+use Rattle.fields.specs.Counts.{AllInRange}
+use Rattle.sheets.specs.List.{sheet_fields}
 use Rattle.sheets.specs.Trailer.{start_of}
 use Rattle.sheets.specs.Sheet.{sheet_read}
 use Rattle.sheets.proofs.Reading.{read_exactly}
-use Rattle.sheets.specs.Laws.Text.{index_le}
 use Rattle.sheets.specs.Laws.Lengths.{range_good}
 use Rattle.programs.specs.Symbols.{symbols_in, symbols_answer}
-use Rattle.programs.specs.Output.{symbol_line, text_by}
-use Rattle.programs.specs.Building.{MOST_INPUT, first_line, after_first, page_line_answer, carried_contents, sheet_contents, behind_answer, input_contents, input_answer, printed_frame}
-use Rattle.programs.specs.Laws.Symbols.{symbols_long, every_bit}
+use Rattle.programs.specs.Output.{symbol_line, refusal_text}
+use Rattle.programs.specs.Building.{MOST_INPUT, first_line, after_first, carried_contents, sheet_contents, behind_answer, input_contents, input_answer, printed_frame}
+use Rattle.programs.specs.Laws.Symbols.{every_bit}
 use Rattle.programs.specs.Laws.Due.{done_all}
-use Rattle.programs.specs.Laws.Building.{first_time, read_answer}
+use Rattle.programs.specs.Laws.Building.{first_time, first_number, read_answer}
 use Rattle.programs.proofs.Laws.Inputs.{done_right}
-use Rattle.std.specs.Prelude.{Err, Ok}
+use Rattle.std.specs.Prelude.{◌∷◌, Result, Err, Ok}
 use Rattle.sheets.specs.declared.sheet.Sheet.{Sheet}
 
 -- ---- answers
 
--- what is answered, and what is left in lent bytes by it
-abbrev pub Leaves : Answer → List ℕ → List ℕ → Answer → List ℕ → Type 0
-Leaves a new old x out = (x ≡ a) × (out ≡ left_by a new old)
+-- what is refused has that answer
+refused_is : {A : Type 0} (a : Answer) (x : A) (r : Refusal) → given_by a x ≡ Err r → a ≡ Err r
+refused_is a x r e = sym (given_answer a x) ∙ ap answer_of e
 
 -- ---- the page line
 
-module _ (input page : List ℕ) (end : ℕ) (found : end ≡ index_of LINE_END input) (x : Answer) where
-  abbrev PageTaken : List ℕ → Type 0
-  PageTaken out = Leaves (page_line_answer input) (symbols_in (first_line input)) page x out
-
-  pub no_newline : end ≡ length input → x ≡ refused_at LENGTH 0 → PageTaken page
-  no_newline e g = rw (le-ltb (index_of LINE_END input) (length input) (omega arith)) (g, refl)
-
-  pub line_taken : (out : List ℕ) → (end ≡ length input → ⊥) → length page ≡ PAGE_BITS
-      → Leaves (symbols_answer (length page) (take end input)) (symbols_in (take end input)) page x out → PageTaken out
-  unfolding first_line
-  line_taken out e long h =
-      rw (lt-ltb (index_of LINE_END input) (length input) (omega (arith, index_le LINE_END input))) (rw (found, long) at h)
-
--- a line that is taken is 250 bits, its newline is the next byte, and the others stand behind it
-pub record Taken (input : List ℕ) : Type 0 where
-  pub long : length (symbols_in (first_line input)) ≡ PAGE_BITS
-  pub bits : IsBits (symbols_in (first_line input))
-  pub inside : PAGE_BITS < length input
-  pub behind : take (length input - (PAGE_BITS + 1)) (drop (PAGE_BITS + 1) input) ≡ after_first input
-
-pub page_taken_lem : (input : List ℕ) → page_line_answer input ≡ Done → Taken input
-unfolding first_line after_first
-page_taken_lem input e =
-    let end = index_of LINE_END input in
-    let line = take end input in
-    let first = both_done (done_if (ltb end (length input)) LENGTH 0) (symbols_answer PAGE_BITS line) e in
-    let inside = ltb-true end (length input) (test_done (ltb end (length input)) LENGTH 0 first.0) in
-    let all = done_all PAGE_BITS line first.1 in
-    let at : end ≡ PAGE_BITS = sym (length-take-le end input (index_le LINE_END input)) ∙ all.0 in
-    record {
-      long = symbols_long line ∙ all.0;
-      bits = every_bit line all.1;
-      inside = omega (arith, inside, at);
-      behind = take_all (length input - (PAGE_BITS + 1)) (drop (PAGE_BITS + 1) input) (omega (arith, length-drop (PAGE_BITS + 1) input))
-          ∙ ap (λ (k : ℕ). drop (k + 1) input) (sym at);
-    }
+-- what stands behind the first newline
+module _ (input rest : List ℕ) (end : ℕ) (found : end ≡ index_of LINE_END input) (cut : rest ≡ drop end input) where
+  pub behind_is : (x : ℕ) (behind : List ℕ) → rest ≡ x ∷ behind → (index_of LINE_END input < length input) × (behind ≡ after_first input)
+  unfolding after_first
+  behind_is x behind e = (
+    omega (arith, found, ap length cut, ap length e, length-drop end input),
+    ap (drop 1) (sym e ∙ cut) ∙ drop-drop 1 end input ∙ ap (λ (k : ℕ). drop (k + 1) input) found,
+  )
 
 -- ---- building
 
@@ -94,78 +72,128 @@ build_on c f counts long bits whole =
     (rw (eq-eqb (length c.counts) COUNTS_2 counts, eq-eqb (length c.page) PAGE_BITS long, eq-eqb (length f) FRAME whole) refl)
     (eq-eqb none (length c.page) (bits_none c.page bits))
 
--- so are the numbers of a sheet with a page
-module _
-    (zs : List ℤ)
-    (page f : List ℕ)
-    (many : length zs ≡ NUMBERS)
-    (long : length page ≡ PAGE_BITS)
-    (bits : IsBits page)
-    (whole : length f ≡ FRAME) where
-  carried_on : build_answer (carried_contents zs page) f ≡ contents_answer (carried_contents zs page)
-  carried_on = build_on (carried_contents zs page) f (omega (arith, length-drop 1 zs)) long bits whole
+-- the time among the numbers of a sheet
+module _ (zs : List ℤ) (range : AllInRange sheet_fields zs) where
+  pub first_cast : to_z w64 (of_z w64 (get_or zs 0 (pos 0))) ≡ pos (mag (get_or zs 0 (pos 0)))
+  first_cast = go (get_or zs 0 (pos 0)) (first_number zs range) (first_time zs range)
+    where
+      go : (z : ℤ) → non_neg z ≡ true → mag z ≤ LAST_TOI → to_z w64 (of_z w64 z) ≡ pos (mag z)
+      go (pos n) e h = to_z_pos w64 n (omega arith)
+      go (negsuc n) e h = absurd (let c : ◌≡◌ {A = ℕ} 0 1 = cc in omega arith)
 
-  pub numbers_built : (toi : ℕ) (counts : List ℤ) (x : Answer) (out : List ℕ) → toi ≡ mag (get_or zs 0 (pos 0)) → counts ≡ drop 1 zs
-      → Leaves (build_answer (contents_of toi counts page) f) (frame_of (contents_of toi counts page)) f x out
-      → Leaves (contents_answer (carried_contents zs page)) (frame_of (carried_contents zs page)) f x out
-  numbers_built toi counts x out e g h =
-      subst (λ (a : Answer). Leaves a (frame_of (carried_contents zs page)) f x out) carried_on (rw (e, g) at h)
+  pub first_fits : T (non_neg (to_z w64 (of_z w64 (get_or zs 0 (pos 0))))) × Fits w16 (nat_abs (to_z w64 (of_z w64 (get_or zs 0 (pos 0)))))
+  first_fits = rw first_cast (tt, record { fits = omega (arith, first_time zs range) })
+
+  -- and all of them with a page
+  module _ (page f : List ℕ) (long : length page ≡ PAGE_BITS) (bits : IsBits page) (whole : length f ≡ FRAME) where
+    -- their frame
+    abbrev pub carried_built : Result (List ℕ) Refusal
+    carried_built = given_by (contents_answer (carried_contents zs page)) (frame_of (carried_contents zs page))
+
+    carried_on : build_answer (carried_contents zs page) f ≡ contents_answer (carried_contents zs page)
+    carried_on = build_on (carried_contents zs page) f (omega (arith, (range_good zs range).0, length-drop 1 zs)) long bits whole
+
+    -- as it is built of the time and the counts
+    module _ (toi : ℕ) (counts : List ℤ) (time : toi ≡ nat_abs (to_z w64 (of_z w64 (get_or zs 0 (pos 0))))) (others : counts ≡ drop 1 zs) where
+      same : contents_of toi counts page ≡ carried_contents zs page
+      same = ap₂ (λ (t : ℕ) (l : List ℤ). contents_of t l page) (time ∙ ap nat_abs first_cast) others
+
+      pub numbers_refused : (r : Refusal) → build_answer (contents_of toi counts page) f ≡ Err r → Err r ≡ carried_built
+      numbers_refused r e =
+          let refused : contents_answer (carried_contents zs page) ≡ Err r =
+          sym carried_on ∙ ap (λ (c : Contents). build_answer c f) (sym same) ∙ e in
+          rw refused refl
+
+      pub numbers_built : build_answer (contents_of toi counts page) f ≡ Done → (out : List ℕ) → out ≡ build_bytes (contents_of toi counts page) f
+          → Ok out ≡ carried_built
+      numbers_built e out written =
+          let done : build_answer (carried_contents zs page) f ≡ Done = ap (λ (c : Contents). build_answer c f) (sym same) ∙ e in
+          rw (written ∙ ap (λ (c : Contents). build_bytes c f) same, done, sym carried_on ∙ done) refl
 
 -- ---- the sheet behind the page line
 
--- of a sheet that is read, the first number is at most 399, and there are 34
-pub read_first : (bytes : List ℕ) (sheet : Sheet) → sheet_read bytes ≡ Ok sheet
-    → (mag (get_or sheet.numbers 0 (pos 0)) ≤ LAST_TOI) × (length sheet.numbers ≡ NUMBERS)
-read_first bytes sheet e =
-    let range = ((read_exactly bytes sheet.numbers sheet.before).0 e).is_sheet.within_range in
-    (first_time sheet.numbers range, (range_good sheet.numbers range).0)
+-- the numbers of a sheet that is read are in range
+pub read_range : (bytes : List ℕ) (sheet : Sheet) → sheet_read bytes ≡ Ok sheet → AllInRange sheet_fields sheet.numbers
+read_range bytes sheet e = ((read_exactly bytes sheet.numbers sheet.before).0 e).is_sheet.within_range
 
-module _ (page bytes f : List ℕ) (x : Answer) where
-  abbrev BehindBuilt : List ℕ → Type 0
-  BehindBuilt out = Leaves (behind_answer page bytes) (frame_of (sheet_contents page bytes)) f x out
+module _ (page bytes : List ℕ) (begins : start_of bytes ≡ 0) where
+  -- the frame of the sheet
+  abbrev pub behind_built : Result (List ℕ) Refusal
+  behind_built = given_by (behind_answer page bytes) (frame_of (sheet_contents page bytes))
 
-  pub begins_later : (start_of bytes ≡ 0 → ⊥) → x ≡ refused_at TRAILER 0 → BehindBuilt f
-  begins_later e g = rw (ne_eqb (start_of bytes) 0 e) (g, refl)
+  pub sheet_refused : (r : Refusal) → sheet_read bytes ≡ Err r → Err r ≡ behind_built
+  sheet_refused r e = rw (eq-eqb (start_of bytes) 0 begins, sym (read_answer bytes) ∙ ap answer_of e) refl
 
-  module _ (begins : start_of bytes ≡ 0) where
-    pub sheet_refused : (r : Refusal) → sheet_read bytes ≡ Err r → x ≡ Err r → BehindBuilt f
-    sheet_refused r e g = rw (eq-eqb (start_of bytes) 0 begins, sym (read_answer bytes) ∙ ap answer_of e) (g, refl)
-
-    pub sheet_built : (out : List ℕ) (sheet : Sheet) → sheet_read bytes ≡ Ok sheet
-        → Leaves (contents_answer (carried_contents sheet.numbers page)) (frame_of (carried_contents sheet.numbers page)) f x out → BehindBuilt out
-    sheet_built out sheet e h = rw (eq-eqb (start_of bytes) 0 begins, sym (read_answer bytes) ∙ ap answer_of e, e) h
+  pub sheet_built : (sheet : Sheet) → sheet_read bytes ≡ Ok sheet
+      → given_by (contents_answer (carried_contents sheet.numbers page)) (frame_of (carried_contents sheet.numbers page)) ≡ behind_built
+  sheet_built sheet e = rw (eq-eqb (start_of bytes) 0 begins, sym (read_answer bytes) ∙ ap answer_of e, e) refl
 
 -- ---- the input
 
-module _ (input f : List ℕ) (x : Answer) where
-  abbrev InputBuilt : List ℕ → Type 0
-  InputBuilt out = Leaves (input_answer input) (frame_of (input_contents input)) f x out
+module _ (input : List ℕ) where
+  -- the frame of the input
+  abbrev pub input_built : Result (List ℕ) Refusal
+  input_built = given_by (input_answer input) (frame_of (input_contents input))
 
-  pub too_long : MOST_INPUT < length input → x ≡ refused_at LENGTH 0 → InputBuilt f
+  pub too_long : MOST_INPUT < length input → refused_at LENGTH 0 ≡ input_built
   unfolding input_answer
-  too_long h g = rw (lt-leb (length input) MOST_INPUT h) (g, refl)
+  too_long h = rw (lt-leb (length input) MOST_INPUT h) refl
 
   module _ (short : length input ≤ MOST_INPUT) where
-    pub page_refused : (r : Refusal) → page_line_answer input ≡ Err r → x ≡ Err r → InputBuilt f
+    pub no_newline : index_of LINE_END input ≡ length input → refused_at LENGTH 0 ≡ input_built
     unfolding input_answer
-    page_refused r e g = rw (le-leb (length input) MOST_INPUT short, e) (g, refl)
+    no_newline e = rw (le-leb (length input) MOST_INPUT short, le-ltb (index_of LINE_END input) (length input) (omega (arith, e))) refl
 
-    pub input_built : (page bytes out : List ℕ) → page_line_answer input ≡ Done → page ≡ symbols_in (first_line input) → bytes ≡ after_first input
-        → Leaves (behind_answer page bytes) (frame_of (sheet_contents page bytes)) f x out → InputBuilt out
-    unfolding input_answer input_contents
-    input_built page bytes out e is part h = rw (le-leb (length input) MOST_INPUT short, e, sym is, sym part) h
+    module _ (newline : index_of LINE_END input < length input) (line : List ℕ) (first : line ≡ first_line input) where
+      -- the page bits in it
+      abbrev pub line_symbols : Result (List ℕ) Refusal
+      line_symbols = given_by (symbols_answer PAGE_BITS line) (symbols_in line)
 
--- the frame of an input that is done is 1800 bits
-pub input_frame : (input : List ℕ) → input_answer input ≡ Done
-    → (length (frame_of (input_contents input)) ≡ FRAME) × IsBits (frame_of (input_contents input))
-input_frame input e =
-    let right = (built_right (input_contents input) (done_right input e).good).carries in
-    (right.long, right.bits)
+      pub line_refused : (r : Refusal) → line_symbols ≡ Err r → Err r ≡ input_built
+      unfolding input_answer
+      line_refused r e =
+          rw (
+            le-leb (length input) MOST_INPUT short,
+            lt-ltb (index_of LINE_END input) (length input) newline,
+            sym first,
+            refused_is (symbols_answer PAGE_BITS line) (symbols_in line) r e,
+          ) refl
+
+      pub line_taken : (behind page : List ℕ) → behind ≡ after_first input → line_symbols ≡ Ok page
+          → given_by (behind_answer page behind) (frame_of (sheet_contents page behind)) ≡ input_built
+      unfolding input_answer input_contents
+      line_taken behind page after e =
+          let given = given_ok (symbols_answer PAGE_BITS line) (symbols_in line) page e in
+          rw (
+            le-leb (length input) MOST_INPUT short,
+            lt-ltb (index_of LINE_END input) (length input) newline,
+            sym first,
+            given.0,
+            given.1,
+            after,
+          ) refl
+
+-- symbols that are taken are bits
+pub taken_bits : (line page : List ℕ) → given_by (symbols_answer PAGE_BITS line) (symbols_in line) ≡ Ok page → IsBits page
+taken_bits line page e =
+    let given = given_ok (symbols_answer PAGE_BITS line) (symbols_in line) page e in
+    subst IsBits (sym given.1) (every_bit line (done_all PAGE_BITS line given.0).1)
 
 -- ---- what is printed
 
--- what is printed goes by the answer
-pub frame_printed : (input : List ℕ) (a : Answer) → input_answer input ≡ a
-    → printed_frame input ≡ text_by a (symbol_line (frame_of (input_contents input)))
-unfolding printed_frame
-frame_printed input a e = ap (λ (b : Answer). text_by b (symbol_line (frame_of (input_contents input)))) e
+module _ (input : List ℕ) where
+  pub refusal_printed : (r : Refusal) → input_built input ≡ Err r → refusal_text r.number r.place ≡ printed_frame input
+  unfolding printed_frame
+  refusal_printed r e = rw (refused_is (input_answer input) (frame_of (input_contents input)) r e) refl
+
+  module _ (f : List ℕ) (built : input_built input ≡ Ok f) where
+    given : (input_answer input ≡ Done) × (f ≡ frame_of (input_contents input))
+    given = given_ok (input_answer input) (frame_of (input_contents input)) f built
+
+    -- the frame of an input that is done is bits
+    pub frame_bits : IsBits f
+    frame_bits = subst IsBits (sym given.1) (built_right (input_contents input) (done_right input given.0).good).carries.bits
+
+    pub frame_printed : symbol_line f ≡ printed_frame input
+    unfolding printed_frame
+    frame_printed = rw (given.0, given.1) refl

@@ -1,9 +1,9 @@
 -- The input of the reading program, judged part by part, and what is printed for it.
 -- Assumes nothing.
 use mathlib.Core.Path.{◌≡◌, refl, sym, ap, ◌∙◌}
-use mathlib.Core.List.{List, [], ◌∷◌, ◌++◌}
+use mathlib.Core.List.{List}
 use Prim.Native.Nat.{ℕ, ◌-◌, ◌≤◌}
-use lib.ListN.{length, get_or}
+use lib.ListN.{length, get_or, take}
 use borrow.Author.Tests.{eq-eqb}
 use Rattle.words.specs.Time.{time_read, corrected_read}
 use Rattle.words.specs.declared.refusal.Refusal.{Refusal}
@@ -14,54 +14,60 @@ use Rattle.frames.specs.declared.read.Frame.{Frame}
 use Rattle.sheets.specs.Text.{LINE_END}
 use Rattle.programs.specs.Symbols.{symbols_in, symbols_answer}
 use Rattle.programs.specs.Output.{refusal_text}
-use Rattle.programs.specs.Reading.{contents_text, frame_line, frame_line_answer, frame_text, frame_input_answer, printed_sheet}
-use Rattle.programs.proofs.building.Laws.{Leaves}
-use Rattle.programs.specs.Laws.Lines.{line_ends, line_before}
+use Rattle.programs.specs.Reading.{contents_text, frame_line, frame_line_answer, frame_input_answer, printed_sheet}
 use Rattle.programs.specs.Laws.Reading.{contents_read, read_is}
-use Rattle.words.specs.Refusal.{Answer, Done, answer_of}
-use Rattle.std.specs.Prelude.{Ok, Err}
-use Rattle.words.specs.Laws.Turns.{given_answer}
+use Rattle.words.specs.Refusal.{Answer, answer_of, given_by, in_turn}
+use Rattle.std.specs.Prelude.{Result, Ok, Err}
+use Rattle.words.specs.Laws.Turns.{not_done, given_answer}
 
 -- ---- the line of symbols
 
-module _ (input frame : List ℕ) (x : Answer) where
-  pub line_taken : (out line : List ℕ) → input ≡ line ++ LINE_END ∷ [] → length frame ≡ FRAME
-      → Leaves (symbols_answer (length frame) line) (symbols_in line) frame x out
-      → Leaves (frame_line_answer input) (symbols_in (frame_line input)) frame x out
-  line_taken out line cut whole h =
-      let ends : get_or input (length input - 1) 0 ≡ LINE_END =
-      ap (λ (l : List ℕ). get_or l (length l - 1) 0) cut ∙ line_ends line LINE_END in
-      let taken : frame_line input ≡ line = ap frame_line cut ∙ line_before line LINE_END in
-      rw (eq-eqb (get_or input (length input - 1) 0) LINE_END ends, taken) (rw whole at h)
-
--- ---- what is read
-
--- the text of what is read
-abbrev pub text_read : Frame → List ℕ
-text_read x = contents_text (contents_read x) x.corrected
-
-module _ (f : List ℕ) where
-  -- what is refused is printed as that refusal
-  pub text_refused : (r : Refusal) → frame_read f ≡ Err r → frame_text f ≡ refusal_text r.number r.place
-  unfolding frame_text
-  text_refused r e = rw (sym (given_answer (frame_answer f) (frame_is (contents_in f) (corrected_read (time_read (time_in f))))) ∙ ap answer_of e) refl
-
-  module _ (x : Frame) (read : frame_read f ≡ Ok x) where
-    -- what is read is good, and at most nine symbols are corrected
-    pub read_good : (x.corrected ≤ 9) × GoodContents (contents_read x)
-    read_good = let right = (read_exactly f (contents_read x) x.corrected).0 read in (right.1.time.near, right.0)
-
-    pub text_done : text_read x ≡ frame_text f
-    unfolding frame_text
-    text_done = let is = read_is f (contents_read x) x.corrected read in sym (rw (is.0, is.1, is.2) refl)
+pub line_taken : (input : List ℕ) → get_or input (length input - 1) 0 ≡ LINE_END
+    → given_by (symbols_answer FRAME (take (length input - 1) input)) (symbols_in (take (length input - 1) input))
+    ≡ given_by (frame_line_answer input) (symbols_in (frame_line input))
+unfolding frame_line
+line_taken input ends = rw (eq-eqb (get_or input (length input - 1) 0) LINE_END ends) refl
 
 -- ---- the input
 
-module _ (input : List ℕ) where
-  pub print_refused : (r : Refusal) → frame_line_answer input ≡ Err r → printed_sheet input ≡ refusal_text r.number r.place
-  unfolding printed_sheet frame_input_answer
-  print_refused r e = rw e refl
+turn_answer : {A : Type 0} (a : Answer) (x : Result A Refusal) → answer_of (in_turn a x) ≡ in_turn a (answer_of x)
+turn_answer (Ok _) x = refl
+turn_answer (Err r) x = refl
 
-  pub print_read : frame_line_answer input ≡ Done → printed_sheet input ≡ frame_text (symbols_in (frame_line input))
-  unfolding printed_sheet frame_input_answer frame_text
-  print_read e = rw e refl
+turn_ok : {A : Type 0} (a : Answer) (x : Result A Refusal) (y : A) → in_turn a x ≡ Ok y → x ≡ Ok y
+turn_ok (Ok _) x y e = e
+turn_ok (Err r) x y e = absurd (not_done r.number r.place (ap answer_of e))
+
+module _ (input : List ℕ) where
+  abbrev symbols : List ℕ
+  symbols = symbols_in (frame_line input)
+
+  -- what is read of it
+  abbrev pub input_read : Result Frame Refusal
+  input_read = in_turn (frame_line_answer input) (frame_read symbols)
+
+  answered : answer_of input_read ≡ frame_input_answer input
+  unfolding frame_input_answer
+  answered =
+      turn_answer (frame_line_answer input) (frame_read symbols)
+      ∙ ap (in_turn (frame_line_answer input))
+      (given_answer (frame_answer symbols) (frame_is (contents_in symbols) (corrected_read (time_read (time_in symbols)))))
+
+  -- what is refused is printed as that refusal
+  pub refusal_printed : (r : Refusal) → input_read ≡ Err r → refusal_text r.number r.place ≡ printed_sheet input
+  unfolding printed_sheet
+  refusal_printed r e = rw (sym answered ∙ ap answer_of e) refl
+
+  module _ (x : Frame) (read : input_read ≡ Ok x) where
+    of_symbols : frame_read symbols ≡ Ok x
+    of_symbols = turn_ok (frame_line_answer input) (frame_read symbols) x read
+
+    -- what is read is good, and at most nine symbols are corrected
+    pub read_good : (x.corrected ≤ 9) × GoodContents (contents_read x)
+    read_good = let right = (read_exactly symbols (contents_read x) x.corrected).0 of_symbols in (right.1.time.near, right.0)
+
+    pub sheet_printed : contents_text (contents_read x) x.corrected ≡ printed_sheet input
+    unfolding printed_sheet
+    sheet_printed =
+        let is = read_is symbols (contents_read x) x.corrected of_symbols in
+        rw (sym answered ∙ ap answer_of read, is.1, is.2) refl

@@ -8,12 +8,12 @@ use native.Mathlib.Numerals.{add-one}
 use native.Mathlib.Omega.{arith}
 use lib.ListN.{length, get_or, drop, set, drop_of_length-le}
 use lib.Seq.{sets, drop-cons}
-use borrow.Author.Tests.{ltb-false}
+use borrow.Author.Tests.{ltb-true, ltb-false}
 use Rattle.sheets.specs.Laws.Sets.{sets_front}
 use Rattle.programs.specs.Symbols.{ZERO, is_symbol, first_other, symbols_in, characters_of}
 use Rattle.programs.specs.Laws.Symbols.{other_le}
 use Rattle.std.specs.List.{position, position_or_len}
-use Rattle.std.specs.Prelude.{Some, None, nat_lt, unwrap_or}
+use Rattle.std.specs.Prelude.{Option, Some, None, MatchOption, nat_lt}
 use Rattle.std.proofs.lemmas.List.Recursion.{is_position_or_len}
 
 -- ---- the first other character
@@ -30,13 +30,15 @@ module _ (l : List ℕ) where
       step true n = omega arith
       step false n = refl
 
-  -- as it is searched for
-  pub other_found : unwrap_or (position is_other l) (length l) ≡ first_other l
+  -- what is found: none, or the first
+  abbrev pub FoundOther : Option ℕ → Type 0
+  FoundOther o = MatchOption o (first_other l ≡ length l) (λ (other : ℕ). (first_other l ≡ other) × (other < length l))
+
+  pub other_found : FoundOther (position is_other l)
   other_found = go (nat_lt (position_or_len is_other l) (length l)) refl
     where
-      go : (t : Bool) → nat_lt (position_or_len is_other l) (length l) ≡ t
-          → unwrap_or (cond t (Some (position_or_len is_other l)) None) (length l) ≡ first_other l
-      go true e = other_place
+      go : (t : Bool) → nat_lt (position_or_len is_other l) (length l) ≡ t → FoundOther (cond t (Some (position_or_len is_other l)) None)
+      go true e = (sym other_place, ltb-true (position_or_len is_other l) (length l) e)
       go false e = omega (arith, other_place, other_le l, ltb-false (position_or_len is_other l) (length l) e)
 
 -- ---- a turn

@@ -1,9 +1,10 @@
 -- The input of the bench program: the numbers of its sheet as contents, and a sheet that begins with the first byte.
 -- Assumes nothing.
-use Rattle.std.specs.Prelude.{◌≡◌, refl, Bool, true, List, [], ◌∷◌, ◌++◌, ℕ, ◌≤◌, ℤ, pos, length, get_or, take, drop}
+use Rattle.std.specs.Prelude.{◌≡◌, refl, Bool, true, ◌&&◌, leb, List, [], ◌∷◌, ◌++◌, ℕ, ◌≤◌, ℤ, pos, length, get_or, take, drop}
 use Rattle.std.proofs.Common.{sym, ap₂, ◌∙◌, subst, arith, le-leb}
 use Rattle.std.proofs.Math.Path.{ap}
-use Rattle.std.specs.Int.Signed.{mag}
+use Rattle.std.specs.Int.Signed.{mag, non_neg}
+use Rattle.std.proofs.Math.Bool.{and-eq-true_iff}
 use Rattle.words.specs.Refusal.{TIME, done_if, in_turn, Answer, Done, answer_of}
 use Rattle.words.specs.Time.{LAST_TOI}
 use Rattle.words.specs.Laws.Turns.{both_done}
@@ -37,6 +38,13 @@ pub first_time : (zs : List ℤ) → AllInRange sheet_fields zs → mag (get_or 
 unfolding sheet_fields sheet_rows fields_in
 first_time [] range = absurd (omega (arith, range.as_many))
 first_time (z ∷ zs) range = range_most toi_field z (range_head toi_field (fields_in Subframe2) z zs range)
+
+pub first_number : (zs : List ℤ) → AllInRange sheet_fields zs → non_neg (get_or zs 0 (pos 0)) ≡ true
+unfolding sheet_fields sheet_rows fields_in
+first_number [] range = absurd (omega (arith, range.as_many))
+first_number (z ∷ zs) range =
+    ((and-eq-true_iff (non_neg z) (leb toi_field.least (mag z) && leb (mag z) toi_field.most)).0
+    (range_head toi_field (fields_in Subframe2) z zs range)).0
 
 -- in building, only the page can then be refused
 pub carried_answer : (zs : List ℤ) (page : List ℕ) → AllInRange sheet_fields zs → contents_answer (carried_contents zs page) ≡ range_answer page

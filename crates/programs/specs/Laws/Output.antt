@@ -108,6 +108,18 @@ module _ (zs : List ℤ) (out : List ℕ) (n at : ℕ) (range : AllInRange sheet
 
 -- ---- what is printed
 
+-- all of it stands in the bytes
+pub size_fits : (o : Output) (text : List ℕ) → length o.bytes ≡ OUTPUT_BYTES → o ≡ output_of text → o.size ≤ OUTPUT_BYTES
+unfolding output_of
+size_fits o text long e =
+    omega (
+      arith,
+      long,
+      ap (λ (p : Output). length p.bytes) e,
+      ap (λ (p : Output). p.size) e,
+      length-append text (drop (length text) (replicate OUTPUT_BYTES 0)),
+    )
+
 -- a text over zeros, and zeros behind it
 pub output_is : (text : List ℕ) (o p : Output) → o.size ≡ 0 → o.bytes ≡ replicate OUTPUT_BYTES 0 → Adds o text p → p.size ≤ OUTPUT_BYTES
     → p ≡ output_of text

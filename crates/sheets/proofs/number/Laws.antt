@@ -1,23 +1,23 @@
 -- Numbers as the code reads and writes them.
 -- Assumes nothing.
 use Rattle.std.specs.Prelude.{Option, Some, None, unsigned_abs}
-use mathlib.Core.Path.{◌≡◌, refl, sym, ap, ◌∙◌}
+use mathlib.Core.Path.{◌≡◌, refl, sym, ap, ap₂, ◌∙◌}
 use mathlib.Core.Bool.{Bool, true, false, cond, not, ◌&&◌, and-false, or-true}
-use mathlib.Core.List.{List, [], ◌∷◌}
+use mathlib.Core.List.{List, [], ◌∷◌, ◌++◌, append_assoc}
 use Prim.Native.Nat.{ℕ, suc, ◌+◌, ◌-◌, ◌*◌, ◌/◌, ◌%◌, ◌≤◌, ◌<◌, min}
-use native.Mathlib.Decide.{dec_le}
+use native.Mathlib.Decide.{dec_le, dec_lt}
 use native.Mathlib.Numerals.{add-one}
 use native.Mathlib.Omega.{arith}
 use lib.Dec.{eqb, leb}
 use lib.IntN.{ℤ, pos, negsuc}
 use lib.ListN.{length, get_or, take, drop, set, length-drop, length-append, drop_of_length-le}
-use lib.Seq.{drop-cons, take_all, sets}
+use lib.Seq.{drop-cons, take_all}
 use lib.Signed.{lt_z}
 use borrow.Author.Tests.{eq-eqb, ne_eqb, le-leb, lt-leb, lt-ltb, le-ltb, ltb-true}
 use Rattle.fields.specs.declared.table.Field.{Field}
 use Rattle.sheets.specs.Number.{MINUS, is_digit, all_digits, decimal_from, is_plain, is_number, value_in, decimal, numeral}
 use Rattle.sheets.specs.Laws.Steps.{BEYOND, negative_read, positive_read, number_read}
-use Rattle.sheets.specs.Laws.Sets.{sets_append}
+use Rattle.std.proofs.lemmas.List.{drop-set}
 use Rattle.sheets.specs.Laws.Numerals.{decimal_least, decimal_small, decimal_large}
 
 -- ---- digits, from a place on
@@ -99,31 +99,52 @@ module _ (f : Field) (l : List ℕ) where
   unfolding is_number value_in
   number_positive e = rw (ne_eqb (get_or l 0 0) MINUS e)
 
--- ---- the digits, written: those of a tenth of the number, and its last one
+-- ---- the digits, written from the last one on
 
-module _ (n : ℕ) (h : n < 10) where
-  pub short_length : length (decimal n) ≡ 1
-  short_length = ap length (decimal_small n h)
+pub some_digit : (n : ℕ) → 1 ≤ length (decimal n)
+some_digit n = go (dec_lt n 10)
+  where
+    go : Dec (n < 10) → 1 ≤ length (decimal n)
+    go (yes h) = omega (arith, ap length (decimal_small n h))
+    go (no h) = omega (arith, ap length (decimal_large n (omega arith)), length-append (decimal (n / 10)) ((48 + n % 10) ∷ []))
 
-  pub short_written : (l : List ℕ) (at : ℕ) → set l at (48 + n) ≡ sets l at (decimal n)
-  short_written l at = ap (sets l at) (sym (decimal_small n h))
+module _ (n from : ℕ) (bytes digits : List ℕ) (h : from < length bytes) (e : decimal n ++ drop (from + 1) bytes ≡ digits) where
+  -- the last digit of what is left
+  pub digit_put : 10 ≤ n → decimal (n / 10) ++ drop from (set bytes from (48 + n % 10)) ≡ digits
+  digit_put m =
+      ap (λ (l : List ℕ). decimal (n / 10) ++ l) (drop-set bytes from (48 + n % 10) h)
+      ∙ sym (append_assoc (decimal (n / 10)) ((48 + n % 10) ∷ []) (drop (from + 1) bytes))
+      ∙ ap (λ (l : List ℕ). l ++ drop (from + 1) bytes) (sym (decimal_large n m))
+      ∙ e
 
-module _ (n : ℕ) (h : 10 ≤ n) where
-  pub long_length : length (decimal n) ≡ length (decimal (n / 10)) + 1
-  long_length = ap length (decimal_large n h) ∙ length-append (decimal (n / 10)) ((48 + n % 10) ∷ [])
-
-  pub long_written : (l : List ℕ) (at : ℕ)
-      → set (sets l at (decimal (n / 10))) (at + length (decimal (n / 10))) (48 + n % 10) ≡ sets l at (decimal n)
-  long_written l at = sym (ap (sets l at) (decimal_large n h) ∙ sets_append (decimal (n / 10)) ((48 + n % 10) ∷ []) l at)
+  -- the only one
+  pub digits_put : n < 10 → drop from (set bytes from (48 + n)) ≡ digits
+  digits_put m = drop-set bytes from (48 + n) h ∙ ap (λ (l : List ℕ). l ++ drop (from + 1) bytes) (sym (decimal_small n m)) ∙ e
 
 -- ---- a number, written by its sign
 
-pub numeral_below : (z : ℤ) → lt_z z (pos 0) ≡ true → numeral z ≡ MINUS ∷ decimal (unsigned_abs z)
+numeral_below : (z : ℤ) → lt_z z (pos 0) ≡ true → numeral z ≡ MINUS ∷ decimal (unsigned_abs z)
 unfolding numeral
 numeral_below (pos n) e = absurd (omega (arith, ltb-true n 0 e))
 numeral_below (negsuc n) e = refl
 
-pub numeral_above : (z : ℤ) → lt_z z (pos 0) ≡ false → numeral z ≡ decimal (unsigned_abs z)
+numeral_above : (z : ℤ) → lt_z z (pos 0) ≡ false → numeral z ≡ decimal (unsigned_abs z)
 unfolding numeral
 numeral_above (pos n) e = refl
 numeral_above (negsuc n) e = absurd (let c : ◌≡◌ {A = ℕ} 0 1 = cc in omega arith)
+
+pub some_numeral : (z : ℤ) → 1 ≤ length (numeral z)
+unfolding numeral
+some_numeral (pos n) = some_digit n
+some_numeral (negsuc n) = omega arith
+
+-- its sign, where it has one, and its digits are put behind what is there
+module _ (number z : ℤ) (old left digits : List ℕ) (e : z ≡ number) (d : digits ≡ decimal (unsigned_abs z)) where
+  pub with_minus : lt_z z (pos 0) ≡ true → left ≡ old ++ MINUS ∷ [] → left ++ digits ≡ old ++ numeral number
+  with_minus below p =
+      ap₂ (λ (l m : List ℕ). l ++ m) p d
+      ∙ append_assoc old (MINUS ∷ []) (decimal (unsigned_abs z))
+      ∙ ap (λ (l : List ℕ). old ++ l) (sym (numeral_below z below) ∙ ap numeral e)
+
+  pub without_minus : lt_z z (pos 0) ≡ false → left ≡ old → left ++ digits ≡ old ++ numeral number
+  without_minus above p = ap₂ (λ (l m : List ℕ). l ++ m) p (d ∙ sym (numeral_above z above) ∙ ap numeral e)

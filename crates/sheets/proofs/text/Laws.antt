@@ -1,6 +1,6 @@
 -- The first byte of a kind, as `position` finds it, and the same bytes, as `==` and `starts_with` compare them.
 -- Assumes nothing.
-use Rattle.std.proofs.Common.{◌≡◌, refl, ℕ, ◌≤◌, List, [], ◌∷◌, eqb, ltb, length, ap, ◌∙◌, cond, ◌&&◌, take, ap₂, arith}
+use Rattle.std.proofs.Common.{◌≡◌, refl, ℕ, ◌≤◌, List, [], ◌∷◌, eqb, ltb, length, ap, cond, ◌&&◌, take, ap₂, arith}
 use Rattle.std.specs.List.{position, position_or_len, starts_with}
 use Rattle.std.specs.Option.{unwrap_or}
 use Rattle.std.specs.declared.option.Option.TheVariants.{None, Some}
@@ -8,20 +8,22 @@ use Rattle.std.proofs.lemmas.List.Recursion.{is_position_or_len}
 use Rattle.std.proofs.lemmas.Bool.Decides.{nat_tests}
 use Rattle.sheets.specs.Text.{index_of, same_bytes}
 use Rattle.sheets.specs.Laws.Text.{index_le}
+use Rattle.sheets.specs.Laws.Steps.{first_at}
 use lib.Pointwise.{pointwise}
 
-index_is : (b : ℕ) (l : List ℕ) → index_of b l ≡ position_or_len (λ x. eqb x b) l
+pub index_is : (b : ℕ) (l : List ℕ) → index_of b l ≡ position_or_len (λ x. eqb x b) l
 unfolding index_of
 index_is b l = is_position_or_len (index_of b) (λ x. eqb x b) refl (λ x xs. ap (λ n. cond (eqb x b) 0 n) (omega arith)) l
 
-found_by : (n m : ℕ) → n ≤ m → n ≡ unwrap_or (cond (ltb n m) (Some n) None) m
-found_by n m h = grind (arith, nat_tests)
+pub first_position : (b : ℕ) (l : List ℕ) → first_at b l ≡ position (λ x. eqb x b) l
+first_position b l = ap (λ (n : ℕ). cond (ltb n (length l)) (Some n) None) (index_is b l)
 
-pub index_position : (b : ℕ) (l : List ℕ) → index_of b l ≡ unwrap_or (position (λ x. eqb x b) l) (length l)
-index_position b l =
-    let e = index_is b l in
-    let h = index_le b l in
-    e ∙ found_by (position_or_len (λ x. eqb x b) l) (length l) (omega arith)
+-- how many bytes stand before it
+pub index_first : (b : ℕ) (l : List ℕ) → unwrap_or (first_at b l) (length l) ≡ index_of b l
+index_first b l = by_place (index_of b l) (length l) (index_le b l)
+  where
+    by_place : (n m : ℕ) → n ≤ m → unwrap_or (cond (ltb n m) (Some n) None) m ≡ n
+    by_place n m h = grind (arith, nat_tests)
 
 flipped : (x y : ℕ) → eqb x y ≡ eqb y x
 flipped x y = grind (arith, nat_tests)

@@ -6,54 +6,30 @@ use mathlib.Core.Path.{◌≡◌, refl, sym, ap, ap₂, ◌∙◌}
 use mathlib.Core.Bool.{Bool, true, false}
 use mathlib.Core.List.{List, [], ◌∷◌, ◌++◌, append_assoc}
 use Prim.Native.Nat.{ℕ, ◌+◌, ◌-◌, ◌≤◌, ◌<◌}
-use native.Mathlib.Nat.{zero-add}
 use native.Mathlib.Numerals.{add-one}
 use native.Mathlib.Omega.{arith}
 use lib.Dec.{leb}
 use lib.IntN.{ℤ, pos}
-use lib.ListN.{length, get_or, take, drop, set, length-append, length-drop, drop_of_length-le}
-use lib.Seq.{sets, drop-cons, take_all, take_at}
+use lib.ListN.{length, get_or, take, drop, length-drop, drop_of_length-le}
+use lib.Seq.{drop-cons, take_all}
 use borrow.Author.Tests.{eq-eqb, ne_eqb, le-leb, lt-leb}
 use Rattle.words.specs.Refusal.{LENGTH, TIME, ROOM, refused_at, done_if, in_turn, left_by, Answer, Done, given_by}
 use Rattle.fields.specs.Table.{no_field}
 use Rattle.fields.specs.Counts.{in_range}
 use Rattle.fields.specs.Subframe2.{COUNTS_2, counts_answer, counts_judged}
-use Rattle.sheets.specs.Text.{LINE_END, EQUALS, ended_by}
+use Rattle.sheets.specs.Text.{LINE_END, ended_by}
 use Rattle.sheets.specs.List.{NUMBERS, sheet_names, sheet_fields}
-use Rattle.sheets.specs.Number.{numeral}
-use Rattle.sheets.specs.Trailer.{trailer_text}
 use Rattle.sheets.specs.Sheet.{line_text, line_texts}
 use Rattle.sheets.specs.Write.{sheet_text, numbers_answer, room_answer, write_answer, put_first, sheet_written, written_bytes, text_written, text_bytes}
-use Rattle.sheets.specs.Laws.Sets.{sets_append, sets_front}
 use Rattle.sheets.specs.Laws.List.{listed_many}
 use Rattle.sheets.proofs.list.Laws.{names_of}
 use Rattle.words.specs.declared.refusal.Refusal.{Refusal}
 use Rattle.std.specs.Prelude.{Ok}
 
--- ---- bytes put from the first place on
-
--- they are the first bytes then
-pub front_is : (vs l o : List ℕ) (n : ℕ) → n ≡ length vs → o ≡ sets l 0 vs → length vs ≤ length l → take n o ≡ vs
-front_is vs l o n e f h = ap (take n) (f ∙ sets_front vs l h) ∙ take_at vs (drop (length vs) l) n (sym e)
-
 -- ---- a line with its end
 
 abbrev pub ended_line : List ℕ → ℤ → List ℕ
 ended_line name z = line_text name z ++ LINE_END ∷ []
-
-pub line_long : (name : List ℕ) (z : ℤ) → length (ended_line name z) ≡ length name + length (numeral z) + 2
-line_long name z = omega (arith, length-append (line_text name z) (LINE_END ∷ []), length-append name (EQUALS ∷ numeral z))
-
-pub line_put : (l name number : List ℕ) (at equals end : ℕ) → equals ≡ at + length name → end ≡ equals + 1 + length number
-    → set (sets (set (sets l at name) equals EQUALS) (equals + 1) number) end LINE_END
-    ≡ sets l at ((name ++ EQUALS ∷ number) ++ LINE_END ∷ [])
-line_put l name number at equals end e f =
-    let line = name ++ EQUALS ∷ number in
-    let long : end ≡ at + length line = omega (arith, length-append name (EQUALS ∷ number)) in
-    ap₂ (λ (i j : ℕ). set (sets (set (sets l at name) equals EQUALS) i number) j LINE_END) (add-one equals) long
-    ∙ ap (λ (i : ℕ). set (sets (sets l at name) i (EQUALS ∷ number)) (at + length line) LINE_END) e
-    ∙ ap (λ (o : List ℕ). set o (at + length line) LINE_END) (sym (sets_append name (EQUALS ∷ number) l at))
-    ∙ sym (sets_append line (LINE_END ∷ []) l at)
 
 -- ---- the lines of the names and numbers from position k on
 
@@ -94,16 +70,6 @@ pub lines_done : (numbers : List ℤ) (k : ℕ) → length numbers ≤ k → lin
 lines_done numbers k h =
     ap (λ (zs : List ℤ). ended_by LINE_END (line_texts (drop k sheet_names) zs)) (drop_of_length-le numbers h) ∙ no_lines (drop k sheet_names)
 
--- the lines, and the trailer behind them
-pub sheet_put : (zs : List ℤ) (out : List ℕ)
-    → let lines = ended_by LINE_END (line_texts sheet_names zs) in
-    sets (sets out 0 lines) (length lines) (trailer_text (length lines)) ≡ sets out 0 (sheet_text zs)
-unfolding sheet_text
-sheet_put zs out =
-    let lines = ended_by LINE_END (line_texts sheet_names zs) in
-    ap (λ (n : ℕ). sets (sets out 0 lines) n (trailer_text (length lines))) (sym (zero-add (length lines)))
-    ∙ sym (sets_append lines (trailer_text (length lines)) out 0)
-
 -- ---- judging the numbers
 
 module _ (zs : List ℤ) where
@@ -139,11 +105,9 @@ module _ (text out : List ℕ) where
   no_room r h e = by_room false r out (lt-leb (length text) (length out) h) e refl
 
   -- enough bytes
-  pub room : (left : List ℕ) (size : ℕ) → size ≡ 0 + length text → length text ≤ length out → left ≡ sets out 0 text
-      → (◌≡◌ {A = Result ℕ Refusal} (Ok size) (text_written text out)) × (left ≡ text_bytes text out)
-  room left size s h e =
-      by_room true (Ok size) left (le-leb (length text) (length out) h)
-      (ap (λ (n : ℕ). Ok n) (s ∙ zero-add (length text))) (e ∙ sets_front text out h)
+  pub room : (left : List ℕ) → length text ≤ length out → left ≡ put_first text out
+      → (◌≡◌ {A = Result ℕ Refusal} (Ok (length text)) (text_written text out)) × (left ≡ text_bytes text out)
+  room left h e = by_room true (Ok (length text)) left (le-leb (length text) (length out) h) refl e
 
 -- ---- what writing a sheet gives
 

@@ -2,6 +2,7 @@
 -- Assumes nothing.
 use Rattle.std.specs.Prelude.{◌≡◌, refl, Option, Some, None, is_some, is_none, unwrap_or, map, Result, Ok, Err, Bool, true, false, cond, not, ◌&&◌, List, ℕ, ◌+◌, min, eqb, ltb, ℤ, pos, neg_ℤ, length, get_or}
 use Rattle.std.specs.List.{position_or_len}
+use Rattle.std.specs.Option.{ok_or}
 use Rattle.words.specs.Refusal.{NAME_MISSING, refused_at}
 use Rattle.words.specs.declared.refusal.Refusal.{Refusal}
 use Rattle.words.specs.declared.refusal.Rule.{Rule}
@@ -11,7 +12,8 @@ use Rattle.fields.specs.Counts.{in_range}
 use Rattle.fields.specs.declared.table.Field.{Field}
 use Rattle.sheets.specs.List.{sheet_names, sheet_fields, position_in}
 use Rattle.sheets.specs.Number.{all_digits, decimal_in, is_plain, is_number_of, value_in}
-use Rattle.sheets.specs.Trailer.{is_trailer, digits_in}
+use Rattle.sheets.specs.Text.{index_of}
+use Rattle.sheets.specs.Trailer.{is_trailer, digits_in, has_trailer, start_of}
 use Rattle.sheets.specs.Lines.{has_equals, name_in, behind_equals, is_listed}
 use Rattle.sheets.specs.Sheet.{sheet_is}
 use Rattle.sheets.specs.declared.sheet.Sheet.{Sheet}
@@ -25,6 +27,19 @@ some_is false n k e = (cc, cc)
 pub none_is : (test : Bool) (n : ℕ) → cond test (Some n) None ≡ None → test ≡ false
 none_is true n e = cc
 none_is false n e = refl
+
+-- what there was, and what there was not, where it is asked for with an error
+pub ok_is : {T E : Type 0} (r : Option T) (e : E) (x : T) → ok_or r e ≡ Ok x → r ≡ Some x
+ok_is None e x h = cc
+ok_is (Some y) e x h = let f : y ≡ x = cc in cc
+
+pub err_is : {T E : Type 0} (r : Option T) (e f : E) → ok_or r e ≡ Err f → (r ≡ None) × (f ≡ e)
+err_is None e f h = (refl, cc)
+err_is (Some y) e f h = (cc, cc)
+
+-- where the first byte b stands
+abbrev pub first_at : ℕ → List ℕ → Option ℕ
+first_at b s = cond (ltb (index_of b s) (length s)) (Some (index_of b s)) None
 
 -- ---- numbers
 
@@ -71,6 +86,10 @@ number_read f l = cond (is_number_of f l) (Some (value_in l)) None
 -- what eleven bytes count, where they are a trailer
 abbrev pub count_read : List ℕ → Option ℕ
 count_read trailer = digits_by (is_trailer trailer) (digits_in trailer)
+
+-- where the sheet at the end of s begins
+abbrev pub start_read : List ℕ → Option ℕ
+start_read s = cond (has_trailer s) (Some (start_of s)) None
 
 -- ---- a line
 

@@ -85,7 +85,7 @@ unfolding index_of
 index_take b [] = refl
 index_take b (x ∷ l) = take_by (eqb x b) b x (index_of b l) l refl (index_take b l)
 
-index_at : (b : ℕ) (l : List ℕ) → index_of b l < length l → get_or l (index_of b l) 0 ≡ b
+pub index_at : (b : ℕ) (l : List ℕ) → index_of b l < length l → get_or l (index_of b l) 0 ≡ b
 unfolding index_of
 index_at b [] h = absurd (omega arith)
 index_at b (x ∷ l) h = count_at (eqb x b) x b 0 l (index_of b l) (eqb-true x b) (index_at b l) h

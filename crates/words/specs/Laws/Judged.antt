@@ -1,6 +1,6 @@
 -- What reading a time finds, case by case.
 -- Assumes nothing.
-use Rattle.std.specs.Prelude.{◌≡◌, Bool, List, ℕ, ◌≤◌, ◌<◌}
+use Rattle.std.specs.Prelude.{◌≡◌, Bool, cond, List, ℕ, ◌≤◌, ◌<◌}
 use Rattle.std.proofs.Math.Path.{refl}
 use Rattle.std.proofs.Common.{ap, ◌∙◌, ⊎_elim}
 use Rattle.std.proofs.Math.Bool.{true, false}
@@ -8,8 +8,8 @@ use native.Mathlib.Omega.{arith}
 use Rattle.std.proofs.Math.Dec.{eqb}
 use Rattle.std.proofs.Math.ListN.{length}
 use borrow.Author.Tests.{eqb-true, eqb-false, eq-eqb}
-use Rattle.words.specs.Bits.{IsBits, first_not_bit}
-use Rattle.words.specs.Refusal.{LENGTH, NOT_A_BIT, TIME, refused_at}
+use Rattle.words.specs.Bits.{IsBits, first_not_bit, bits_judged}
+use Rattle.words.specs.Refusal.{LENGTH, NOT_A_BIT, TIME, refused_at, done_if, in_turn}
 use Rattle.words.specs.Time.{IsTime, time_is, nearest_time, time_read}
 use Rattle.words.specs.Distance.{one_within}
 use Rattle.words.specs.Laws.Digits.{none_not_bit, not_bit_le}
@@ -22,6 +22,16 @@ pub data Judged (s : List ℕ) : Type 0 where
   a_time : length s ≡ 52 → IsBits s → (toi places : ℕ) → IsTime s toi places → time_read s ≡ time_is toi places → Judged s
 
 module _ (s : List ℕ) where
+  -- 52 symbols are judged by their bits, then by the search
+  pub time_turns : length s ≡ 52 → time_read s ≡ in_turn (bits_judged s) (nearest_time 400 0 s)
+  unfolding time_read
+  time_turns l = rw (eq-eqb (length s) 52 l) (go (eqb (first_not_bit s) (length s)))
+    where
+      go : (t : Bool) → cond t (nearest_time 400 0 s) (refused_at NOT_A_BIT (first_not_bit s))
+          ≡ in_turn (done_if t NOT_A_BIT (first_not_bit s)) (nearest_time 400 0 s)
+      go true = refl
+      go false = refl
+
   -- 52 bits are judged by the search alone
   pub read_bits : length s ≡ 52 → first_not_bit s ≡ length s → time_read s ≡ nearest_time 400 0 s
   unfolding time_read

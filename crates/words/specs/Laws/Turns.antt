@@ -1,8 +1,10 @@
 -- Answers that are judged in turn.
 -- Assumes nothing.
-use Rattle.std.specs.Prelude.{◌≡◌, refl, Bool, true, false, ℕ, Result, Ok, Err}
-use Rattle.std.proofs.Common.{sym, ap, arith}
-use Rattle.words.specs.Refusal.{Answer, Done, answer_of, given_by, refusal_at, refused_at, done_if, in_turn, judged, number_of}
+use Rattle.std.specs.Prelude.{◌≡◌, refl, Bool, true, false, List, ℕ, Result, Ok, Err, eqb, length}
+use Rattle.std.proofs.Common.{sym, ap, ◌∙◌, arith}
+use borrow.Author.Tests.{eqb-true, eq-eqb}
+use Rattle.words.specs.Bits.{bits_judged, first_not_bit}
+use Rattle.words.specs.Refusal.{LENGTH, NOT_A_BIT, Answer, Done, answer_of, given_by, refusal_at, refused_at, done_if, in_turn, judged, number_of}
 use Rattle.words.specs.declared.refusal.Refusal.{Refusal}
 use Rattle.std.specs.Result.{result_unwrap_or}
 
@@ -53,11 +55,33 @@ given_ok (Err r) x y e = absurd (not_done r.number r.place (ap answer_of e))
 pub judged_on : (l b : Bool) (first_not : ℕ) (a : Answer) → l ≡ true → b ≡ true → judged l b first_not a ≡ a
 judged_on l b first_not a e f = rw (e, f) refl
 
+-- what is judged is the length, then the bits, then what else is answered
+pub judged_turns : (l b : Bool) (first_not : ℕ) (a : Answer)
+    → judged l b first_not a ≡ in_turn (done_if l LENGTH 0) (in_turn (done_if b NOT_A_BIT first_not) a)
+judged_turns true true first_not a = refl
+judged_turns true false first_not a = refl
+judged_turns false b first_not a = refl
+
 -- and only such are done
 pub judged_done : (l b : Bool) (first_not : ℕ) (a : Answer) → judged l b first_not a ≡ Done → (l ≡ true) × (b ≡ true) × (a ≡ Done)
 judged_done true true first_not a e = (refl, refl, e)
 judged_done true false first_not a e = absurd (not_done 2 first_not e)
 judged_done false b first_not a e = absurd (not_done 1 0 e)
+
+-- ---- lent bytes that are to be bits
+
+module _ (l : List ℕ) where
+  -- they are where that is not refused
+  pub bits_done : bits_judged l ≡ Done → first_not_bit l ≡ length l
+  bits_done e =
+      eqb-true (first_not_bit l) (length l) (test_done (eqb (first_not_bit l) (length l)) NOT_A_BIT (first_not_bit l) e)
+
+  -- of the right length, they are judged by their bits, and then by what else is answered
+  pub judged_by_bits : (n m : ℕ) (a : Answer) → m ≡ n
+      → judged (eqb m n) (eqb (first_not_bit l) (length l)) (first_not_bit l) a ≡ in_turn (bits_judged l) a
+  judged_by_bits n m a e =
+      judged_turns (eqb m n) (eqb (first_not_bit l) (length l)) (first_not_bit l) a
+      ∙ ap (λ (t : Bool). in_turn (done_if t LENGTH 0) (in_turn (bits_judged l) a)) (eq-eqb m n e)
 
 -- ---- an answer whose number is 0 is done
 

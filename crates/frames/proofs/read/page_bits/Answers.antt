@@ -2,7 +2,7 @@
 use mathlib.Core.Path.{◌≡◌, sym, ◌∙◌}
 use Rattle.std.proofs.Common.{rules}
 use Rattle.std.specs.Prelude.{Err}
-use Rattle.frames.proofs.read.Laws.{page_judged}
+use Rattle.frames.specs.Laws.Good.{page_judged}
 use Rattle.frames.proofs.read.page_bits.Goals as goal
 
 pub returns-in_err-judge_page : goal.returns-in_err-judge_page

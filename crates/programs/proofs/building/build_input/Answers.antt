@@ -1,47 +1,29 @@
--- `programs::building::build_input` meets its contract: a page line that is taken is 250 bits, and the sheet stands right behind it. Assumes nothing.
-use mathlib.Core.Path.{◌≡◌, sym, ap, ◌∙◌, subst}
-use native.Mathlib.Omega.{arith}
-use Prim.Native.Nat.{◌-◌}
-use lib.ListN.{length, take, drop, replicate}
-use Rattle.std.proofs.Common.{rules}
+-- `programs::building::build_input` meets its contract, part by part. Assumes nothing.
+use Rattle.std.proofs.Common.{◌≡◌, ◌∙◌, sym, ap, rules}
 use Rattle.std.specs.Prelude.{Err}
-use Rattle.words.specs.Bits.{IsBits}
-use Rattle.words.specs.Refusal.{Answer, left_by}
-use Rattle.programs.specs.Symbols.{symbols_in}
-use Rattle.programs.specs.Building.{first_line}
-use Rattle.programs.proofs.building.Laws.{page_taken_lem, too_long, page_refused, input_built}
+use Rattle.programs.proofs.building.Laws.{too_long, no_newline, line_refused, line_taken, taken_bits}
 use Rattle.programs.proofs.building.build_input.Goals as goal
 
-pub returns-then-too_long : goal.returns-then-too_long
-returns-then-too_long c = let a = c.args in too_long a.input.now a.frame.now _ c.if-too_long.true (ap Err c.at.ensures)
+pub returns-then-input-gt-MOST_INPUT : goal.returns-then-input-gt-MOST_INPUT
+returns-then-input-gt-MOST_INPUT c = ap Err c.at.ensures ∙ too_long c.args.input.now c.if-input-gt-MOST_INPUT.true
 
-pub returns-in_err-take_page_line : goal.returns-in_err-take_page_line
-returns-in_err-take_page_line c =
-    let refused : c.from_residual.result ≡ Err c.in_err-take_page_line.field-0.0 = search rules in
-    page_refused c.args.input.now c.args.frame.now _ c.if-too_long.false c.in_err-take_page_line.field-0.0
-    (sym c.take_page_line.ensures.0 ∙ c.in_err-take_page_line.was) refused
+pub returns-in_default : goal.returns-in_default
+returns-in_default c = ap Err c.at-in_default.ensures ∙ no_newline c.args.input.now c.if-input-gt-MOST_INPUT.false c.in_default.ensures
 
-pub slice_bounds-build_behind-count : goal.slice_bounds-build_behind-count
-slice_bounds-build_behind-count c =
-    let line = page_taken_lem c.args.input.now (sym c.take_page_line.ensures.0 ∙ c.in_ok-take_page_line.was) in omega (arith, line.inside)
-
-pub slice_bounds-build_behind-start : goal.slice_bounds-build_behind-start
-slice_bounds-build_behind-start c =
-    let line = page_taken_lem c.args.input.now (sym c.take_page_line.ensures.0 ∙ c.in_ok-take_page_line.was) in omega (arith, line.inside)
+pub returns-in_err-page : goal.returns-in_err-page
+returns-in_err-page c =
+    let split = c.in-Some.ensures in
+    let r = c.in_err-page.field-0.0 in
+    let refused : c.from_residual.result ≡ Err r = search rules in
+    refused
+    ∙ line_refused c.args.input.now c.if-input-gt-MOST_INPUT.false split.0 c.in-Some.line.now split.1 r (sym c.take_symbols.ensures ∙ c.in_err-page.was)
 
 pub build_behind-requires : goal.build_behind-requires
-build_behind-requires c =
-    let input = c.args.input.now in
-    let done = sym c.take_page_line.ensures.0 ∙ c.in_ok-take_page_line.was in
-    let agrees = c.take_page_line.ensures.1 ∙ ap (λ (a : Answer). left_by a (symbols_in (first_line input)) (replicate 250 0)) done in
-    let line = page_taken_lem input done in
-    (ap length agrees ∙ line.long, subst IsBits (sym agrees) line.bits, c.requires)
+build_behind-requires c = taken_bits c.in-Some.line.now c.in_ok-page.page (sym c.take_symbols.ensures ∙ c.in_ok-page.was)
 
 pub returns : goal.returns
 returns c =
-    let input = c.args.input.now in
-    let done = sym c.take_page_line.ensures.0 ∙ c.in_ok-take_page_line.was in
-    let agrees = c.take_page_line.ensures.1 ∙ ap (λ (a : Answer). left_by a (symbols_in (first_line input)) (replicate 250 0)) done in
-    let line = page_taken_lem input done in
-    input_built input c.args.frame.now c.build_behind.result c.if-too_long.false c.take_page_line.new.page
-    (take (length input - 251) (drop 251 input)) c.build_behind.new.frame done agrees line.behind c.build_behind.ensures
+    let split = c.in-Some.ensures in
+    c.build_behind.ensures
+    ∙ line_taken c.args.input.now c.if-input-gt-MOST_INPUT.false split.0 c.in-Some.line.now split.1 c.in-Some.behind.now c.in_ok-page.page split.2
+    (sym c.take_symbols.ensures ∙ c.in_ok-page.was)

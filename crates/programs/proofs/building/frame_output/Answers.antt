@@ -10,4 +10,4 @@ returns c =
     let frame = c.args.frame.now in
     let output = c.put_line.new.self in
     let added = line_added fresh.result frame output c.put_line.ensures.size c.put_line.ensures.bytes in
-    (output_is (symbol_line frame) fresh.result output fresh.ensures.size fresh.ensures.bytes added (omega arith), omega arith)
+    output_is (symbol_line frame) fresh.result output fresh.ensures.size fresh.ensures.bytes added (omega arith)

@@ -1,21 +1,23 @@
--- `programs::reading::print_sheet` meets its contract. Assumes nothing.
-use mathlib.Core.Path.{sym, ap, ◌∙◌}
-use lib.ListN.{replicate}
-use Rattle.words.specs.Refusal.{Answer, left_by}
-use Rattle.programs.specs.Symbols.{symbols_in}
-use Rattle.programs.specs.Output.{output_of}
-use Rattle.programs.specs.Reading.{frame_line, frame_text}
-use Rattle.programs.proofs.reading.Laws.{print_refused, print_read}
+-- `programs::reading::print_sheet` meets its contract: what is read is good, so its sheet is printed and has room. Assumes nothing.
+use Rattle.std.proofs.Common.{◌≡◌, ◌∙◌, sym, ap, length, rules}
+use Rattle.programs.specs.Output.{OUTPUT_BYTES, output_of}
+use Rattle.programs.specs.Laws.Output.{size_fits}
+use Rattle.programs.proofs.reading.Laws.{refusal_printed, read_good, sheet_printed}
 use Rattle.programs.proofs.reading.print_sheet.Goals as goal
 
-pub returns-in-Err : goal.returns-in-Err
-returns-in-Err c =
-    let text = print_refused c.args.input.now c.in-Err.refusal (sym c.take_frame_line.ensures.0 ∙ c.in-Err.is) in
-    (c.refusal_output.ensures.0 ∙ ap output_of (sym text), c.refusal_output.ensures.1)
+pub contents_output-requires : goal.contents_output-requires
+contents_output-requires c = read_good c.args.input.now c.in-Ok.frame (sym c.read_input.ensures ∙ c.in-Ok.is)
 
 pub returns-in-Ok : goal.returns-in-Ok
 returns-in-Ok c =
-    let input = c.args.input.now in
-    let done = sym c.take_frame_line.ensures.0 ∙ c.in-Ok.is in
-    let taken = c.take_frame_line.ensures.1 ∙ ap (λ (a : Answer). left_by a (symbols_in (frame_line input)) (replicate 1800 0)) done in
-    (c.frame_contents.ensures.0 ∙ ap output_of (ap frame_text taken ∙ sym (print_read input done)), c.frame_contents.ensures.1)
+    let text = sheet_printed c.args.input.now c.in-Ok.frame (sym c.read_input.ensures ∙ c.in-Ok.is) in
+    let long : length c.contents_output.result.bytes ≡ OUTPUT_BYTES = search rules in
+    let printed = c.contents_output.ensures ∙ ap output_of text in
+    (printed, size_fits c.contents_output.result _ long printed)
+
+pub returns-in-Err : goal.returns-in-Err
+returns-in-Err c =
+    let text = refusal_printed c.args.input.now c.in-Err.refusal (sym c.read_input.ensures ∙ c.in-Err.is) in
+    let long : length c.refusal_output.result.bytes ≡ OUTPUT_BYTES = search rules in
+    let printed = c.refusal_output.ensures ∙ ap output_of text in
+    (printed, size_fits c.refusal_output.result _ long printed)

@@ -10,9 +10,6 @@ loop-i-init c =
     let symbols = c.args.symbols.now in
     all_written (characters_of symbols) c.args.characters.now (omega (arith, characters_long symbols, c.requires.1))
 
-pub overflow_add-characters : goal.overflow_add-characters
-overflow_add-characters c = omega (arith, c.requires.0.bit c.loop-i.i)
-
 pub loop-i-preserved : goal.loop-i-preserved
 loop-i-preserved c = character_put c.args.symbols.now c.loop-i.i (omega arith) c.loop-i.characters ∙ c.loop-i.invariant
 

@@ -1,63 +1,62 @@
 -- `sheets::lines::judge_line` meets its contract. Assumes nothing.
-use Rattle.std.proofs.Common.{◌≡◌, ℕ, ◌+◌, List, Option, length, take, drop, length-take, sym, ap, ap₂, ◌∙◌, arith, lt-ltb, le-ltb, ltb-true}
+use Rattle.std.proofs.Common.{◌≡◌, ℕ, ◌+◌, true, List, Option, Ok, Err, take, drop, length, sym, ap, ap₂, ◌∙◌, arith, ltb-true}
+use Rattle.std.proofs.lemmas.Grind.{common_steps}
 use borrow.Author.Rules.{part_to_end}
+use Rattle.std.specs.Option.{ok_or}
+use Rattle.words.specs.declared.refusal.Rule.TheVariants.{Line, Name}
 use Rattle.sheets.specs.Text.{EQUALS, index_of}
 use Rattle.sheets.specs.List.{sheet_names, position_in}
-use Rattle.sheets.specs.Lines.{name_in, is_listed}
-use Rattle.sheets.specs.Laws.Steps.{some_is, none_is, named_line, line_read, listed_at}
-use Rattle.sheets.specs.Laws.Text.{index_le}
+use Rattle.sheets.specs.Lines.{has_equals, name_in, is_listed}
+use Rattle.sheets.specs.Laws.Steps.{some_is, none_is, ok_is, err_is, named_line, line_read, first_at, listed_at}
 use Rattle.sheets.specs.Laws.List.{listed_many}
 use Rattle.sheets.proofs.lines.judge_line.Goals as goal
 
-pub returns-then-equals-line : goal.returns-then-equals-line
+pub returns-in_err-equals : goal.returns-in_err-equals
 unfolding line_read
-returns-then-equals-line c =
+returns-in_err-equals c =
     let line = c.args.line.now in
-    rw (le-ltb (index_of EQUALS line) (length line) (omega (arith, c.find-equals.ensures)))
+    let refused : c.from_residual.result ≡ Err c.in_err-equals.field-0.0 = grind (arith, common_steps) in
+    let none = err_is c.first.result Line c.in_err-equals.field-0.0 (sym c.ok_or.ensures.value ∙ c.in_err-equals.was) in
+    refused ∙ ap Err none.1 ∙ rw (none_is (has_equals line) (index_of EQUALS line) (sym c.first.ensures ∙ none.0))
 
--- where there is an `=`, it stands before the line's end
-pub overflow_add-from : goal.overflow_add-from
-overflow_add-from c = omega (arith, index_le EQUALS c.args.line.now)
+-- the line's `=` stands there
+equals_at : (line : List ℕ) (first : Option ℕ) (n : ℕ) → first ≡ first_at EQUALS line → ok_or first Line ≡ Ok n → (has_equals line ≡ true) × (index_of EQUALS line ≡ n)
+equals_at line first n e f = some_is (has_equals line) (index_of EQUALS line) n (sym e ∙ ok_is first Line n f)
 
-pub slice_bounds-name_position-end : goal.slice_bounds-name_position-end
-slice_bounds-name_position-end c = simp length-take (omega (arith, index_le EQUALS c.args.line.now))
+-- and the name that was looked for is the line's
+name_at : (line : List ℕ) (n : ℕ) (found : Option ℕ) → index_of EQUALS line ≡ n → found ≡ listed_at (take n line) → listed_at (name_in line) ≡ found
+name_at line n found e f = ap (λ (i : ℕ). listed_at (take i line)) e ∙ sym f
 
-pub slice_bounds-judge_named-count : goal.slice_bounds-judge_named-count
-slice_bounds-judge_named-count c = omega (arith, index_le EQUALS c.args.line.now)
+listed_as : (line : List ℕ) (found : Option ℕ) (k : ℕ) → listed_at (name_in line) ≡ found → ok_or found Name ≡ Ok k
+    → (is_listed (name_in line) ≡ true) × (position_in (name_in line) sheet_names ≡ k)
+listed_as line found k e f = some_is (is_listed (name_in line)) (position_in (name_in line) sheet_names) k (e ∙ ok_is found Name k f)
 
-pub slice_bounds-judge_named-start : goal.slice_bounds-judge_named-start
-slice_bounds-judge_named-start c = omega (arith, index_le EQUALS c.args.line.now)
-
--- the name that was looked for is the line's
-named : (line : List ℕ) (n : ℕ) (r x : Option ℕ) → n ≡ index_of EQUALS line → r ≡ listed_at (take n line) → r ≡ x → listed_at (name_in line) ≡ x
-named line n r x e f g = ap (λ (i : ℕ). listed_at (take i line)) (sym e) ∙ sym f ∙ g
-
-pub returns-in_default : goal.returns-in_default
+pub returns-in_err-k : goal.returns-in_err-k
 unfolding line_read named_line
-returns-in_default c =
+returns-in_err-k c =
     let line = c.args.line.now in
-    let none = named line _ _ _ c.find-equals.ensures c.name_position.ensures c.in_default.is in
-    rw (
-      lt-ltb (index_of EQUALS line) (length line) (omega (arith, index_le EQUALS line)),
-      none_is (is_listed (name_in line)) (position_in (name_in line) sheet_names) none,
-    )
+    let equals = equals_at line _ _ c.first.ensures (sym c.ok_or.ensures.value ∙ c.in_ok-equals.was) in
+    let name = name_at line _ _ equals.1 c.name_position.ensures in
+    let refused : c.from_residual-in_err-k.result ≡ Err c.in_err-k.field-0.0 = grind (arith, common_steps) in
+    let none = err_is c.name_position.result Name c.in_err-k.field-0.0 (sym c.ok_or-2.ensures.value ∙ c.in_err-k.was) in
+    refused ∙ ap Err none.1 ∙ rw (equals.0, none_is (is_listed (name_in line)) (position_in (name_in line) sheet_names) (name ∙ none.0))
 
 pub judge_named-requires : goal.judge_named-requires
 judge_named-requires c =
     let line = c.args.line.now in
-    let k = position_in (name_in line) sheet_names in
-    let some = some_is (is_listed (name_in line)) k c.in-Some.k (named line _ _ _ c.find-equals.ensures c.name_position.ensures c.in-Some.is) in
-    omega (arith, ltb-true k (length sheet_names) some.0, some.1, listed_many)
+    let equals = equals_at line _ _ c.first.ensures (sym c.ok_or.ensures.value ∙ c.in_ok-equals.was) in
+    let name = name_at line _ _ equals.1 c.name_position.ensures in
+    let listed = listed_as line _ _ name (sym c.ok_or-2.ensures.value ∙ c.in_ok-k.was) in
+    omega (arith, ltb-true (position_in (name_in line) sheet_names) (length sheet_names) listed.0, listed.1, listed_many)
 
 pub returns : goal.returns
 unfolding line_read
 returns c =
-    let a = c.args in
-    let line = a.line.now in
-    let e = c.find-equals.ensures in
-    let k = position_in (name_in line) sheet_names in
-    let some = some_is (is_listed (name_in line)) k c.in-Some.k (named line _ _ _ e c.name_position.ensures c.in-Some.is) in
-    rw (lt-ltb (index_of EQUALS line) (length line) (omega (arith, index_le EQUALS line)))
+    let line = c.args.line.now in
+    let equals = equals_at line _ _ c.first.ensures (sym c.ok_or.ensures.value ∙ c.in_ok-equals.was) in
+    let name = name_at line _ _ equals.1 c.name_position.ensures in
+    let listed = listed_as line _ _ name (sym c.ok_or-2.ensures.value ∙ c.in_ok-k.was) in
+    rw (equals.0)
     (c.judge_named.ensures
-    ∙ ap₂ (λ (j : ℕ) (text : List ℕ). named_line j text a.found.now) (sym some.1)
-    (part_to_end line (c.find-equals.result + 1) ∙ ap (λ (i : ℕ). drop (i + 1) line) e))
+    ∙ ap₂ (λ (j : ℕ) (text : List ℕ). named_line j text c.args.found.now) (sym listed.1)
+    (part_to_end line (c.in_ok-equals.equals + 1) ∙ ap (λ (i : ℕ). drop (i + 1) line) (sym equals.1)))

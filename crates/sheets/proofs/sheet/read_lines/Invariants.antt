@@ -1,11 +1,9 @@
 -- `sheets::sheet::read_lines` meets its contract. The loop keeps how far reading has come. Assumes nothing.
-use Prim.Native.Nat.{◌-◌}
-use lib.ListN.{length}
+use Rattle.std.proofs.Common.{◌≡◌, ◌≤◌, length, drop}
+use Rattle.std.specs.Slice.Iter.{split_inclusive_rest}
 use Rattle.sheets.proofs.sheet.Laws.{Progress}
 use Rattle.sheets.proofs.sheet.read_lines.Given as goal
 
-abbrev pub invariant-loop-at : goal.invariant-loop-at
-invariant-loop-at l = Progress l.lines l.at l.found
-
-abbrev pub decreases-loop-at : goal.decreases-loop-at
-decreases-loop-at l = length l.lines - l.at
+abbrev pub invariant-loop-ended : goal.invariant-loop-ended
+invariant-loop-ended l =
+    Progress l.lines l.at l.found × (l.at ≤ length l.lines) × (split_inclusive_rest l.ended-iterator ≡ drop l.at l.lines)
