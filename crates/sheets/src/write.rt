@@ -16,7 +16,8 @@ use words::refusal::{Refusal, Rule};
 
 // ---- any text
 
-// Writes a text from the first lent byte on, and gives its length; the bytes behind it stay. Refused 16 at 0 where the text has more bytes than are lent.
+// Writes a text from the first lent byte on, and gives its length; the bytes behind it stay. Refused 16 at 0 where the text has more bytes
+// than are lent.
 pub fn write_text(text: &[u8], out: &mut [u8]) -> Result<usize, Refusal>
     ensures { (result ≡ text_written text.now out.old) × (out.new ≡ text_bytes text.now out.old) }
 {
@@ -69,9 +70,9 @@ fn judge_numbers(numbers: &[i64]) -> Result<(), Refusal>
     Err(Rule::Time.at(0))
 }
 
-// Writes the sheet of 34 numbers, toi's first, from the first lent byte on, and gives its length; the bytes behind it stay. Refused 1 at 0 for another number of
-// numbers, 3 at 0 for a time that is none, 6 at the first bit of the first field out of range, 16 at 0 where the sheet has more bytes than
-// are lent.
+// Writes the sheet of 34 numbers, toi's first, from the first lent byte on, and gives its length; the bytes behind it stay. Refused 1 at 0
+// for another number of numbers, 3 at 0 for a time that is none, 6 at the first bit of the first field out of range, 16 at 0 where the sheet
+// has more bytes than are lent.
 pub fn write_sheet(numbers: &[i64], out: &mut [u8]) -> Result<usize, Refusal>
     ensures { (result ≡ sheet_written numbers.now out.old)
         × (out.new ≡ written_bytes numbers.now out.old) }
