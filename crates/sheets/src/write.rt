@@ -7,8 +7,7 @@ ghost use Rattle.sheets.specs.Sheet.{line_text, line_texts};
 ghost use Rattle.sheets.specs.Write.{numbers_answer, sheet_written, written_bytes, text_written, text_bytes};
 
 use super::list::{LISTED, NAMES, listed_field};
-use super::number::Digits;
-use super::text::{SHEET_BYTES, SheetText};
+use super::text::{SHEET_BYTES, Text};
 use super::trailer::put_trailer;
 use fields::counts::in_range;
 use fields::subframe2::judge_counts;
@@ -32,13 +31,15 @@ pub fn write_text(text: &[u8], out: &mut [u8]) -> Result<usize, Refusal>
 pub fn write_decimal(number: u64, out: &mut [u8]) -> Result<usize, Refusal>
     ensures { (result ≡ text_written (decimal number) out.old) × (out.new ≡ text_bytes (decimal number) out.old) }
 {
-    write_text(Digits::of(number).as_slice(), out)
+    let mut digits = Text::new();
+    digits.put_decimal(number);
+    write_text(digits.as_slice(), out)
 }
 
 // ---- a sheet
 
 // Puts a line with its end behind what is there.
-fn put_line(sheet: &mut SheetText, name: &[u8], number: i64)
+fn put_line(sheet: &mut Text, name: &[u8], number: i64)
     requires { length sheet.old + length (line_text name.now number ++ LINE_END ∷ []) ≤ SHEET_BYTES }
     ensures { sheet.new ≡ sheet.old ++ (line_text name.now number ++ LINE_END ∷ []) }
 {
@@ -49,7 +50,7 @@ fn put_line(sheet: &mut SheetText, name: &[u8], number: i64)
 }
 
 // Puts a line for each number behind it, with its name of the list.
-fn put_lines(sheet: &mut SheetText, numbers: &[i64])
+fn put_lines(sheet: &mut Text, numbers: &[i64])
     requires { (length numbers.now ≡ NUMBERS)
         × (length sheet.old + length (ended_by LINE_END (line_texts sheet_names numbers.now)) ≤ SHEET_BYTES) }
     ensures { sheet.new ≡ sheet.old ++ ended_by LINE_END (line_texts sheet_names numbers.now) }
@@ -81,7 +82,7 @@ pub fn write_sheet(numbers: &[i64], out: &mut [u8]) -> Result<usize, Refusal>
         return Err(Rule::Length.at(0));
     }
     judge_numbers(numbers)?;
-    let mut sheet = SheetText::new();
+    let mut sheet = Text::new();
     put_lines(&mut sheet, numbers);
     put_trailer(&mut sheet);
     write_text(sheet.as_slice(), out)
