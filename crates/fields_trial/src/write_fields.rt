@@ -40,7 +40,8 @@ pub(crate) fn lengths() {
 }
 
 // Zeros with one other count, over garbage.
-// This and `not_written` tell of `write_fields`, as `with_count` and `not_with_count` of frames_trial of `build`.
+// This and `not_written` tell of `write_fields`, as `with_count` and `not_with_count` of frames_trial of `build`: one for
+// both would take a closure of the call, and be no plainer.
 fn written(text: &[u8], k: usize, count: i64, at: usize, width: usize)
     requires { k < 33 }
 {

@@ -145,7 +145,8 @@ fn counts_with(k: usize, count: i64) -> [i64; 33]
     counts
 }
 
-// This and `not_with_count` tell of `build`, as `written` and `not_written` of fields_trial of `write_fields`.
+// This and `not_with_count` tell of `build`, as `written` and `not_written` of fields_trial of `write_fields`: one for
+// both would take a closure of the call, and be no plainer.
 fn with_count(text: &[u8], k: usize, count: i64)
     requires { k < 33 }
 {
