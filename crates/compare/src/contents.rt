@@ -87,6 +87,7 @@ fn unpack(text: &[u8; 450], frame: &mut [u8; 1800]) -> bool {
         let Some(four) = digit(character, 16) else {
             return false;
         };
+        // four bits hold a digit of base 16
         let _ = put_number(symbols, 0, 4, u64::from(four));
     }
     true

@@ -33,12 +33,12 @@ module _ (l : List ℕ) where
   last_nine =
       let p = first_out 14 (page_fields (kind_of (number_in l))) (page_counts (kind_of (number_in l)) l) in nine_counts (eqb p 0) p
 
-  -- Err 1: another length than 250, at 0, and nothing else.
+  -- Refused 1: another length than 250, at 0, and nothing else.
   pub page_refused_length : (length l ≢ PAGE_BITS → page_answer l ≡ refused_at LENGTH 0)
       × (number_of (page_answer l) ≡ LENGTH → length l ≢ PAGE_BITS)
   page_refused_length = (judged_length 250 (length l) l (range_answer l), found_length (length l) l (range_answer l) last_nine)
 
-  -- Err 2: 250 bytes of which one is neither 0 nor 1, at the first, and nothing else.
+  -- Refused 2: 250 bytes of which one is neither 0 nor 1, at the first, and nothing else.
   pub page_refused_byte : (length l ≡ PAGE_BITS → (IsBits l → ⊥) → page_answer l ≡ refused_at NOT_A_BIT (first_not_bit l))
       × (number_of (page_answer l) ≡ NOT_A_BIT
       → (length l ≡ PAGE_BITS) × (IsBits l → ⊥) × (place_of (page_answer l) ≡ first_not_bit l))
@@ -50,7 +50,7 @@ module _ (l : List ℕ) where
       let found = found_field (length l) l (range_answer l) e in
       one_asked (number_in l) (only_one_out (kind_of (number_in l)) (drop 14 l) (sym (ap number_of found.2) ∙ e))
 
-  -- Err 9: 250 bits of page 1 with a field out of its range, at the first bit of the first such field, and nothing else.
+  -- Refused 9: 250 bits of page 1 with a field out of its range, at the first bit of the first such field, and nothing else.
   pub page_refused_field : (p : ℕ)
       → (length l ≡ PAGE_BITS → IsBits l → number_in l ≡ 1 → OutOfPage1 l p → page_answer l ≡ refused_at FIELD_3 p)
       × (page_answer l ≡ refused_at FIELD_3 p → (length l ≡ PAGE_BITS) × IsBits l × (number_in l ≡ 1) × OutOfPage1 l p)
@@ -121,24 +121,24 @@ module _ (page : Page) (out : List ℕ) where
   put_nine =
       let p = first_out 14 (page_fields page.kind) (used_counts page) in nine_fields (is_own page.kind page.number) (eqb p 0) p
 
-  -- Err 1: the lent bytes are not 250, at 0, and nothing else.
+  -- Refused 1: the lent bytes are not 250, at 0, and nothing else.
   pub put_refused_length : (length out ≢ PAGE_BITS → put_page_answer page out ≡ refused_at LENGTH 0)
       × (number_of (put_page_answer page out) ≡ LENGTH → length out ≢ PAGE_BITS)
   put_refused_length = (judged_length 250 (length out) (used_bits page) judged_last, found_length (length out) (used_bits page) judged_last put_nine)
 
-  -- Err 2: one of the record's own bits is neither 0 nor 1, at the index of the first, and nothing else.
+  -- Refused 2: one of the record's own bits is neither 0 nor 1, at the index of the first, and nothing else.
   pub put_refused_byte : (length out ≡ PAGE_BITS → (IsBits (used_bits page) → ⊥)
       → put_page_answer page out ≡ refused_at NOT_A_BIT (first_not_bit (used_bits page)))
       × (number_of (put_page_answer page out) ≡ NOT_A_BIT
       → (length out ≡ PAGE_BITS) × (IsBits (used_bits page) → ⊥) × (place_of (put_page_answer page out) ≡ first_not_bit (used_bits page)))
   put_refused_byte = (judged_byte 250 (length out) (used_bits page) judged_last, found_byte (length out) (used_bits page) judged_last put_nine)
 
-  -- Err 9 at 9: a page number that is not the record's own.
+  -- Refused 9 at 9: a page number that is not the record's own.
   pub put_refused_number : length out ≡ PAGE_BITS → IsBits (used_bits page) → is_own page.kind page.number ≡ false
       → put_page_answer page out ≡ refused_at FIELD_3 NUMBER_BIT
   put_refused_number long are own = judged_right 250 (length out) (used_bits page) judged_last long are ∙ rw own refl
 
-  -- Err 9 at the first bit of the first field out of its range: the page number is the record's own.
+  -- Refused 9 at the first bit of the first field out of its range: the page number is the record's own.
   pub put_refused_field : (p : ℕ) → length out ≡ PAGE_BITS → IsBits (used_bits page) → is_own page.kind page.number ≡ true
       → OutOfRecord p → put_page_answer page out ≡ refused_at FIELD_3 p
   put_refused_field p long are own o =

@@ -164,7 +164,7 @@ pub(crate) fn taken_bare() {
 
 // ---- not taken
 
-// Refused, and nothing else is given.
+// Refused. Nothing can stand beside it: the second text is as it was printed when zeros did.
 fn refuses(text: &[u8], bits: &[u8], number: u8, place: usize) {
     let taken = take_page(bits);
     refused(text, &taken, number, place);

@@ -6,6 +6,7 @@ use show::{done, expected, refused};
 use words::bits::put_number;
 use words::refusal::refuse;
 
+// A refusal where 33 counts would be given. The texts are as they were printed when a function of this name put zeros beside it.
 pub(crate) fn no_fields_at_all() {
     refused(
         b"no_fields(0, 0) is that refusal, with zeros",

@@ -1,5 +1,5 @@
--- THEOREMS: demand 2, refusals. A frame is refused with number N at P exactly where document 01's table says so, in its order; with zeros
--- beside the refusal.
+-- THEOREMS: demand 2, refusals. A frame is refused with number N at P exactly where document 01's table says so, in its order, and
+-- nothing else is given.
 -- Assumes nothing.
 use Rattle.std.specs.Prelude.{◌≡◌, refl, List, ◌↔◌, ℕ, Err, Ok}
 use Rattle.std.proofs.Common.{ap, ◌∙◌}
@@ -28,7 +28,7 @@ refused_exactly f n p =
     (λ m q d. (answer_by_lem (frame_answer f) (contents_in f) (corrected_read (time_read (time_in f))) ∙ (frame_due_refused f m q d).0, (frame_due_refused f m q d).1))
     (rw (answer_by_lem (frame_answer f) (contents_in f) (corrected_read (time_read (time_in f)))) (frame_verdict f)) n p
 
--- Beside that refusal stand zeros.
+-- It gives nothing else.
 pub refused_only : (f : List ℕ) (n p : ℕ) → FrameDue f n p → frame_read f ≡ refused_at n p
 refused_only f n p d =
     ap (λ (a : Answer). given_by a (frame_is (contents_in f) (corrected_read (time_read (time_in f))))) (frame_due_refused f n p d).0

@@ -1,4 +1,4 @@
--- THEOREMS: demand 2, refusals of the time alone: exactly where document 01's table says so, in its order; with zeros beside them.
+-- THEOREMS: demand 2, refusals of the time alone: exactly where document 01's table says so, in its order, and nothing else given.
 -- Assumes nothing.
 use Rattle.std.specs.Prelude.{◌≡◌, List, ◌↔◌, ℕ}
 use Rattle.std.proofs.Common.{ap}

@@ -49,7 +49,7 @@ pub(crate) fn parts_alone(symbols: &[u8], parts: Parts) {
     );
 }
 
-// ---- refusals: nothing else is given
+// ---- refusals: nothing can stand beside them; the texts are as they were printed when zeros did
 
 pub(crate) fn no_frame(text: &[u8], symbols: &[u8], number: u8, place: usize) {
     let frame = read(symbols);

@@ -4,7 +4,7 @@ use super::text::{Text, push_bytes, text_of};
 use programs::building::print_frame;
 use sheets::write::write_sheet;
 
-// The page line, then the sheet in 243 bytes, then room for a line more.
+// The page line, then the sheet in 243 bytes, then room for a line more. A refusal would leave characters that are no sheet.
 fn zero_input() -> [u8; 500] {
     let numbers = [0i64; 34];
     let mut input = [b'0'; 500];

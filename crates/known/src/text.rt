@@ -5,7 +5,7 @@ use words::refusal::Refusal;
 
 pub(crate) type Text = ArrayString<64>;
 
-// What is displayed, as far as there is room for it.
+// What is displayed, as far as there is room for it. `Drop` says that what is given can be let go.
 pub(crate) fn text_of(shown: impl Display + Drop) -> Text {
     let mut text = Text::new();
     let _ = write!(text, "{shown}");

@@ -32,7 +32,7 @@ fn time_in(symbols: &[u8]) -> Text {
     }
 }
 
-// TOI 0's word with its first nine symbols turned.
+// TOI 0's word with its first nine symbols turned. A refusal would leave symbols that are no bits.
 fn nine_turned() -> [u8; 52] {
     let mut symbols = [255u8; 52];
     let _ = write_time(&mut symbols, 0);

@@ -11,10 +11,12 @@ use Rattle.sheets.specs.Walk.{step_at, place_after}
 use Rattle.sheets.specs.Refused.{refused_only}
 use Rattle.sheets.specs.declared.sheet.Sheet.{Sheet}
 
--- At place 0 the walk is finished.
-pub walk_finished : (s : List ℕ) → step_at s 0 ≡ None
+-- At place 0 the walk is finished, and the place stays.
+pub walk_finished : (s : List ℕ) → (step_at s 0 ≡ None) × (place_after (step_at s 0) 0 ≡ 0)
 unfolding step_at
-walk_finished s = ap (λ (t : Bool). cond t None (Some (refused_at LENGTH 0))) (le-leb 0 (length s) (omega arith))
+walk_finished s =
+    let none = ap (λ (t : Bool). cond t None (Some (refused_at LENGTH 0))) (le-leb 0 (length s) (omega arith)) in
+    (none, ap (λ (x : Option (Result Sheet Refusal)). place_after x 0) none)
 
 -- A place past the end is refused 1 at 0, and the place stays.
 pub walk_past_end : (s : List ℕ) (place : ℕ) → length s < place

@@ -1,11 +1,10 @@
 // Texts: where a byte stands, and a text that is written piece by piece.
 ghost use Rattle.std.specs.Prelude.{◌≡◌, ◌≤◌, ◌<◌, ◌+◌, List, [], ◌∷◌, ◌++◌, ℕ, length, take};
 ghost use Rattle.sheets.specs.Text.{index_of};
-ghost use Rattle.sheets.specs.Number.{numeral};
+ghost use Rattle.sheets.specs.Number.{decimal, numeral};
 ghost use Rattle.sheets.specs.Laws.Steps.{first_at};
 ghost use Rattle.sheets.specs.declared.text.TheConstants.{SHEET_BYTES};
 
-use super::number::Digits;
 use std::marker::Model;
 
 // Where the first byte `b` stands, if there is one.
@@ -25,15 +24,15 @@ pub fn find(bytes: &[u8], b: u8) -> usize
 // The most bytes that the sheet of good numbers has.
 pub(crate) const SHEET_BYTES: usize = 800;
 
-// A sheet that is written piece by piece.
+// A text that is written piece by piece, with room for such a sheet.
 #[derive(Drop)]
-pub(crate) struct SheetText {
+pub(crate) struct Text {
     bytes: [u8; SHEET_BYTES],
     size: usize,
 }
 
 // Clauses see what is written so far.
-impl Model for SheetText {
+impl Model for Text {
     ghost Value = { List ℕ };
 
     ghost view = { λ text. take text.size text.bytes };
@@ -41,11 +40,11 @@ impl Model for SheetText {
     ghost invariant = { λ text. text.size ≤ SHEET_BYTES };
 }
 
-impl SheetText {
-    pub(crate) fn new() -> SheetText
+impl Text {
+    pub(crate) fn new() -> Text
         ensures { result ≡ [] }
     {
-        SheetText {
+        Text {
             bytes: [0; SHEET_BYTES],
             size: 0,
         }
@@ -80,6 +79,17 @@ impl SheetText {
         self.size = end;
     }
 
+    // The digits of a number.
+    pub(crate) fn put_decimal(&mut self, number: u64)
+        requires { length self.old + length (decimal number) ≤ SHEET_BYTES }
+        ensures { self.new ≡ self.old ++ decimal number }
+    {
+        if 10 <= number {
+            self.put_decimal(number / 10);
+        }
+        self.push(b'0' + (number % 10) as u8);
+    }
+
     // A number, with its sign where it is below zero.
     pub(crate) fn put_number(&mut self, number: i64)
         requires { length self.old + length (numeral number) ≤ SHEET_BYTES }
@@ -88,6 +98,6 @@ impl SheetText {
         if number < 0 {
             self.push(b'-');
         }
-        self.put(Digits::of(number.unsigned_abs()).as_slice());
+        self.put_decimal(number.unsigned_abs());
     }
 }

@@ -4,7 +4,7 @@ ghost use Rattle.sheets.specs.Trailer.{TRAILER_BYTES, start_of, trailer_text};
 ghost use Rattle.sheets.specs.Laws.Steps.{count_read, start_read};
 
 use super::number::read_digits;
-use super::text::{SHEET_BYTES, SheetText};
+use super::text::{SHEET_BYTES, Text};
 
 // What eleven bytes count, where they are a trailer.
 fn read_count(trailer: &[u8]) -> Option<u64>
@@ -38,7 +38,7 @@ pub fn sheet_start(bytes: &[u8]) -> usize
 }
 
 // Puts the trailer behind the lines of a sheet.
-pub(crate) fn put_trailer(sheet: &mut SheetText)
+pub(crate) fn put_trailer(sheet: &mut Text)
     requires { length sheet.old + TRAILER_BYTES ≤ SHEET_BYTES }
     ensures { sheet.new ≡ sheet.old ++ trailer_text (length sheet.old) }
 {

@@ -3,7 +3,7 @@ use super::zeros::zero_sheet;
 use sheets::sheet::{Sheet, before_sheet, read_sheet};
 use show::{done, expected, refused};
 
-// A refusal, with no numbers beside it and nothing before it.
+// A refusal, and no bytes before it. No number can stand beside it: the text is as it was printed when zeros did.
 pub(crate) fn not_read(text: &[u8], bytes: &[u8], number: u8, place: usize) {
     refused(text, &read_sheet(bytes), number, place);
     expected(b"  and beside it are zeros", before_sheet(bytes).is_empty());

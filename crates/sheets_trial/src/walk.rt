@@ -46,7 +46,7 @@ pub(crate) fn nothing() {
     stays(b"  from 1 refused 1 at 0", b"", 1, 1, 0);
 }
 
-// Of time 0, in 243 bytes, and of time 399, in 245.
+// Of time 0, in 243 bytes, and of time 399, in 245. A refusal would leave zeros, which no step reads as a sheet.
 fn file() -> [u8; 488] {
     let zeros = [0i64; 34];
     let mut numbers = [0i64; 34];

@@ -1,6 +1,6 @@
 -- What a refusal is: the table "Numbers given on refusal" of document 01.
 -- Assumes nothing.
-use Rattle.std.specs.Prelude.{Bool, true, false, cond, List, [], ℕ, Result, Ok, Err, ⊤}
+use Rattle.std.specs.Prelude.{Bool, true, false, cond, List, [], ◌++◌, ℕ, Result, Ok, Err, ⊤, codes, decimal}
 use Rattle.words.specs.declared.refusal.Refusal.{Refusal}
 use Rattle.words.specs.declared.refusal.Rule.{Rule}
 use Rattle.words.specs.declared.refusal.Rule.TheVariants.{Length, NotABit, Time, Equation2, Check2, Field2, Equation3, Check3, Field3, Trailer, Line, Name, NameAgain, Number, NameMissing, Room}
@@ -112,6 +112,10 @@ answer_of (Err r) = Err r
 abbrev pub given_by : {A : Type 0} → Answer → A → Result A Refusal
 given_by (Ok _) x = Ok x
 given_by (Err r) x = Err r
+
+-- how a refusal is written: `refused N at P`
+abbrev pub refusal_text : ℕ → ℕ → List ℕ
+refusal_text number place = codes "refused " ++ (decimal number ++ (codes " at " ++ decimal place))
 
 -- done where the test holds, and else the refusal with this number, at this place
 abbrev pub done_if : Bool → ℕ → ℕ → Answer

@@ -1,6 +1,6 @@
 // What a refusal is: its number, by the table "Numbers given on refusal", and its place.
-ghost use Rattle.std.specs.Prelude.{◌≡◌};
-ghost use Rattle.words.specs.Refusal.{number, refusal_at, refused_at};
+ghost use Rattle.std.specs.Prelude.{◌≡◌, Some};
+ghost use Rattle.words.specs.Refusal.{number, refusal_at, refusal_text, refused_at};
 
 use std::fmt;
 
@@ -44,6 +44,7 @@ impl Rule {
     }
 }
 
+// A refusal: the number of a row of the table, and the place.
 #[derive(Clone, Copy, PartialEq, Eq)]
 pub struct Refusal {
     pub number: u8,
@@ -51,12 +52,15 @@ pub struct Refusal {
 }
 
 impl fmt::Display for Refusal {
+    ghost output = { λ refusal. Some (refusal_text refusal.number refusal.place) };
+
     fn fmt<W: fmt::Write>(&self, f: &mut fmt::Formatter<W>) -> fmt::Result {
         write!(f, "refused {} at {}", self.number, self.place)
     }
 }
 
-// Refuses with this number, at this place, whatever else would be given.
+// Refuses with this number, which may be one that no rule has, at this place, where a value would be given. The library's own refusals are
+// made by `Rule::at`.
 pub fn refuse<T>(number: u8, place: usize) -> Result<T, Refusal>
     ensures { result ≡ refused_at number place }
 {

@@ -123,6 +123,7 @@ pub(crate) fn turned() {
     refused(b"ten turned are refused 3 at 0", &read_time(&symbols), 3, 0);
 }
 
+// A refusal where a time would be given. The texts are as they were printed when a function of this name put zeros beside it.
 pub(crate) fn no_times() {
     refused(
         b"no_time(0, 0) is that refusal, with zeros",

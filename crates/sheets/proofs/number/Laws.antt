@@ -10,14 +10,13 @@ use native.Mathlib.Numerals.{add-one}
 use native.Mathlib.Omega.{arith}
 use lib.Dec.{eqb, leb}
 use lib.IntN.{ℤ, pos, negsuc}
-use lib.ListN.{length, get_or, take, drop, set, length-drop, length-append, drop_of_length-le}
+use lib.ListN.{length, get_or, take, drop, length-drop, length-append, drop_of_length-le}
 use lib.Seq.{drop-cons, take_all}
 use lib.Signed.{lt_z}
 use borrow.Author.Tests.{eq-eqb, ne_eqb, le-leb, lt-leb, lt-ltb, le-ltb, ltb-true}
 use Rattle.fields.specs.declared.table.Field.{Field}
 use Rattle.sheets.specs.Number.{MINUS, is_digit, all_digits, decimal_from, is_plain, is_number, value_in, decimal, numeral}
 use Rattle.sheets.specs.Laws.Steps.{BEYOND, negative_read, positive_read, number_read}
-use Rattle.std.proofs.lemmas.List.{drop-set}
 use Rattle.sheets.specs.Laws.Numerals.{decimal_least, decimal_small, decimal_large}
 
 -- ---- digits, from a place on
@@ -99,7 +98,7 @@ module _ (f : Field) (l : List ℕ) where
   unfolding is_number value_in
   number_positive e = rw (ne_eqb (get_or l 0 0) MINUS e)
 
--- ---- the digits, written from the last one on
+-- ---- the digits, written
 
 pub some_digit : (n : ℕ) → 1 ≤ length (decimal n)
 some_digit n = go (dec_lt n 10)
@@ -108,18 +107,18 @@ some_digit n = go (dec_lt n 10)
     go (yes h) = omega (arith, ap length (decimal_small n h))
     go (no h) = omega (arith, ap length (decimal_large n (omega arith)), length-append (decimal (n / 10)) ((48 + n % 10) ∷ []))
 
-module _ (n from : ℕ) (bytes digits : List ℕ) (h : from < length bytes) (e : decimal n ++ drop (from + 1) bytes ≡ digits) where
-  -- the last digit of what is left
-  pub digit_put : 10 ≤ n → decimal (n / 10) ++ drop from (set bytes from (48 + n % 10)) ≡ digits
-  digit_put m =
-      ap (λ (l : List ℕ). decimal (n / 10) ++ l) (drop-set bytes from (48 + n % 10) h)
-      ∙ sym (append_assoc (decimal (n / 10)) ((48 + n % 10) ∷ []) (drop (from + 1) bytes))
-      ∙ ap (λ (l : List ℕ). l ++ drop (from + 1) bytes) (sym (decimal_large n m))
-      ∙ e
+-- a digit behind those of a tenth, and the only one
+module _ (n : ℕ) (old left : List ℕ) where
+  pub digit_behind : 10 ≤ n → left ≡ old ++ decimal (n / 10) → left ++ (48 + n % 10) ∷ [] ≡ old ++ decimal n
+  digit_behind m e =
+      ap (λ (l : List ℕ). l ++ (48 + n % 10) ∷ []) e
+      ∙ append_assoc old (decimal (n / 10)) ((48 + n % 10) ∷ [])
+      ∙ ap (λ (l : List ℕ). old ++ l) (sym (decimal_large n m))
 
-  -- the only one
-  pub digits_put : n < 10 → drop from (set bytes from (48 + n)) ≡ digits
-  digits_put m = drop-set bytes from (48 + n) h ∙ ap (λ (l : List ℕ). l ++ drop (from + 1) bytes) (sym (decimal_small n m)) ∙ e
+  pub digit_alone : n < 10 → left ≡ old → left ++ (48 + n % 10) ∷ [] ≡ old ++ decimal n
+  digit_alone m e =
+      let same : n % 10 ≡ n = omega arith in
+      ap₂ (λ (l : List ℕ) (d : ℕ). l ++ (48 + d) ∷ []) e same ∙ ap (λ (l : List ℕ). old ++ l) (sym (decimal_small n m))
 
 -- ---- a number, written by its sign
 
