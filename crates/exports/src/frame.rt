@@ -9,8 +9,8 @@ ghost use Rattle.exports.specs.Calls.{build_call, build_call_frame, read_call, r
 use super::code::refusal_code;
 use super::lent::{put_numbers, toi_of};
 use frames::build::build;
-use sheets::list::LISTED;
 use frames::read::{read, read_subframe2, read_subframe3, read_time};
+use sheets::list::LISTED;
 use words::refusal::Rule;
 
 // Builds the frame of 34 numbers, toi's first, and 250 page bits into 1800 bytes. Refused 1, 2 (page bits), 3, 6, 9.

@@ -41,10 +41,6 @@ abbrev pub frame_line_answer : List ℕ → Answer
 frame_line_answer input =
     in_turn (done_if (eqb (get_or input (length input - 1) 0) LINE_END) LENGTH 0) (symbols_answer FRAME (frame_line input))
 
--- what is printed for symbols: what stands in them, or the refusal of reading them
-unfoldable pub frame_text : List ℕ → List ℕ
-frame_text f = text_by (frame_answer f) (contents_text (contents_in f) (corrected_read (time_read (time_in f))))
-
 -- judging the input: the line, then the frame
 unfoldable pub frame_input_answer : List ℕ → Answer
 frame_input_answer input = in_turn (frame_line_answer input) (frame_answer (symbols_in (frame_line input)))

@@ -1,8 +1,8 @@
 -- Answers that are judged in turn.
 -- Assumes nothing.
 use Rattle.std.specs.Prelude.{◌≡◌, refl, Bool, true, false, List, ℕ, Result, Ok, Err, eqb, length}
-use Rattle.std.proofs.Common.{sym, ap, ◌∙◌, arith}
-use borrow.Author.Tests.{eqb-true, eq-eqb}
+use Rattle.std.proofs.Common.{sym, ap, arith}
+use borrow.Author.Tests.{eqb-true}
 use Rattle.words.specs.Bits.{bits_judged, first_not_bit}
 use Rattle.words.specs.Refusal.{LENGTH, NOT_A_BIT, Answer, Done, answer_of, given_by, refusal_at, refused_at, done_if, in_turn, judged, number_of}
 use Rattle.words.specs.declared.refusal.Refusal.{Refusal}
@@ -75,13 +75,6 @@ module _ (l : List ℕ) where
   pub bits_done : bits_judged l ≡ Done → first_not_bit l ≡ length l
   bits_done e =
       eqb-true (first_not_bit l) (length l) (test_done (eqb (first_not_bit l) (length l)) NOT_A_BIT (first_not_bit l) e)
-
-  -- of the right length, they are judged by their bits, and then by what else is answered
-  pub judged_by_bits : (n m : ℕ) (a : Answer) → m ≡ n
-      → judged (eqb m n) (eqb (first_not_bit l) (length l)) (first_not_bit l) a ≡ in_turn (bits_judged l) a
-  judged_by_bits n m a e =
-      judged_turns (eqb m n) (eqb (first_not_bit l) (length l)) (first_not_bit l) a
-      ∙ ap (λ (t : Bool). in_turn (done_if t LENGTH 0) (in_turn (bits_judged l) a)) (eq-eqb m n e)
 
 -- ---- an answer whose number is 0 is done
 
