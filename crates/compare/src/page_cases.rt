@@ -67,6 +67,7 @@ fn record_put_agrees(page: Page, room: Option<usize>) -> bool {
     is_read && putting_agrees(page, room, told, &expected)
 }
 
+// What is told and the room come as they are read from the line.
 fn putting_agrees(page: Page, room: Option<usize>, told: Told, expected: &[u8; 251]) -> bool {
     let mut bytes = [GARBAGE; 251];
     first_put_agree(page, &mut bytes, room, told) && bytes == *expected

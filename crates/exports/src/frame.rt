@@ -29,6 +29,7 @@ pub fn l1c_build(contents: &[i64], page: &[u8], frame: &mut [u8]) -> u64
 }
 
 // The numbers and the page bits are as many as they must be.
+// The lengths are those of this call: a function for all calls would take each as a parameter.
 fn has_room(numbers: usize, page: usize) -> bool
     ensures { result ≡ (eqb numbers NUMBERS && eqb page PAGE_BITS) }
 {
@@ -56,6 +57,7 @@ pub fn l1c_read(frame: &[u8], contents: &mut [i64], page: &mut [u8]) -> u64
 }
 
 // Reads the time alone: toi, then how many symbols were corrected. Refused 1, 2, then 3.
+// The C interface: the calls that read hand C other values each, and say by a number what came of it.
 pub fn l1c_read_time(frame: &[u8], time: &mut [u32]) -> u64
     ensures { (result ≡ code_of (time_call frame.now time.old) 0)
         × (time.new ≡ time_call_time frame.now time.old) }

@@ -5,6 +5,7 @@ ghost use Rattle.exports.specs.Calls.{toi_of};
 use words::time::LAST_TOI;
 
 // The time that a number is; 400, which is no time, for a number that is none from 0 to 399.
+// Not an Option: `build` refuses 400, each refusal in its order (theorem `no_time_refused`).
 pub(crate) fn toi_of(number: i64) -> u16
     ensures { result ≡ toi_of number }
 {

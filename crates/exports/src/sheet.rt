@@ -14,6 +14,7 @@ use sheets::write::write_sheet;
 use words::refusal::Rule;
 
 // Each length of a part of the bytes is less than 2^32, and the numbers are as many as they must be.
+// The lengths are those of this call: a function for all calls would take each as a parameter.
 fn has_lengths(bytes: usize, numbers: usize) -> bool
     ensures { result ≡ (ltb bytes HALF && eqb numbers NUMBERS) }
 {

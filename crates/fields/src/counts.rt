@@ -44,6 +44,7 @@ impl Field {
     }
 }
 
+// Counts are lent as many as the table has fields; how many those are the table alone says, so no array type does.
 impl Table {
     // The counts of the fields, whose bits start at `from`.
     pub(crate) fn read(self, bits: &[u8], from: usize, counts: &mut [i64])

@@ -72,6 +72,7 @@ pub enum Kind {
 
 // A page: the counts of its fields, and the bits behind them that are carried as bits. A page 1 record uses 17 counts and 74 bits, a
 // page 6 record 30 counts, bare bits all 236 bits; what a kind does not use is zero when it is taken, and not looked at when it is put.
+// Public: the counts and bits have room for either kind, and a kind uses a part.
 #[derive(Clone, Copy, PartialEq, Eq)]
 pub struct Page {
     pub prn: u8,
@@ -82,6 +83,7 @@ pub struct Page {
 }
 
 // The kind of record that a page number asks for.
+// No `From<u8>`: it would be public, for a match that only this file makes.
 fn kind_of(number: u8) -> Kind
     ensures { result ≡ kind_of number }
 {
@@ -139,6 +141,7 @@ impl Kind {
 }
 
 // PRN, bits 1 to 8.
+// This and `number_in` are each one call with the document's numbers.
 fn prn_in(bits: &[u8]) -> u8
     ensures { result ≡ prn_in bits.now }
 {
@@ -155,6 +158,7 @@ fn number_in(bits: &[u8]) -> u8
 // ---- taking
 
 // The counts of a page's fields, and zeros behind them.
+// Asked for: 250 bits, and the kind beside them. Public functions take a page as a slice, so a type of both would be made in each of them.
 fn counts_of(kind: Kind, bits: &[u8]) -> [i64; 30]
     requires { length bits.now ≡ PAGE_BITS }
     ensures { result ≡ (record_of kind bits.now).counts }

@@ -45,6 +45,7 @@ pub fn bit_count(table: Table) -> usize
 }
 
 // The field k of a table, from 0; past the last one, a field of no bits.
+// Not an Option: its clause, by `no_field`, promises a field of no bits.
 pub fn field_at(table: Table, k: usize) -> Field
     ensures { result ≡ get_or (fields_in table) k no_field }
 {

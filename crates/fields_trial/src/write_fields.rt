@@ -40,6 +40,7 @@ pub(crate) fn lengths() {
 }
 
 // Zeros with one other count, over garbage.
+// This and `not_written` tell of `write_fields`, as `with_count` and `not_with_count` of frames_trial of `build`.
 fn written(text: &[u8], k: usize, count: i64, at: usize, width: usize)
     requires { k < 33 }
 {

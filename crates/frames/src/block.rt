@@ -14,6 +14,7 @@ use words::crc::{is_right, put_check};
 use words::refusal::{Refusal, Rule};
 
 // The rule for check bits that differ.
+// A match of two arms: a table or a closure is no plainer, and `equation_rule` of parity gives other rules.
 fn check_rule(subframe: Subframe) -> Rule
     ensures { number result ≡ check_number subframe }
 {

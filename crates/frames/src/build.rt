@@ -21,6 +21,7 @@ use words::refusal::{Refusal, Rule};
 use words::time::{LAST_TOI, write_time};
 
 // The counts, the page and the frame are as many as they must be.
+// The lengths are those of this call: a function for all calls would take each as a parameter.
 fn has_sizes(counts: usize, page: usize, frame: usize) -> bool
     ensures { result ≡ (eqb counts COUNTS_2 && (eqb page PAGE_BITS && eqb frame FRAME)) }
 {
@@ -49,6 +50,7 @@ impl<'a> Contents<'a> {
     }
 
     // The symbols of the time and of both blocks, in order.
+    // Asked for: blocks of bits, as `complete` leaves them, and the room that `build` has judged; a type of either would be made for this call.
     fn write_symbols(self, two: &[u8; 1200], three: &[u8; 548], frame: &mut [u8])
         requires { IsBits two.now × IsBits three.now × (length frame.old ≡ FRAME) }
         ensures { frame.new ≡ time_word self.entry.toi ++ interleaved (two.now ++ three.now) }

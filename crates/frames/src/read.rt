@@ -34,6 +34,7 @@ fn counts_of(two: &[u8]) -> Result<[i64; 33], Refusal>
 }
 
 // The page bits that are lent, 250 of them; refused 9.
+// Asked for: 250 bits. They are a part of a block, judged there, and a type would be made for this one call.
 fn page_bits(bits: &[u8]) -> Result<[u8; 250], Refusal>
     requires { (length bits.now ≡ PAGE_BITS) × IsBits bits.now }
     ensures { result ≡ given_by (range_answer bits.now) bits.now }

@@ -145,6 +145,7 @@ fn counts_with(k: usize, count: i64) -> [i64; 33]
     counts
 }
 
+// This and `not_with_count` tell of `build`, as `written` and `not_written` of fields_trial of `write_fields`.
 fn with_count(text: &[u8], k: usize, count: i64)
     requires { k < 33 }
 {

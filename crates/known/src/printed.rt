@@ -51,6 +51,7 @@ fn zeros_text(zeros: usize) -> Text {
     text_of(format_args!("{zeros} zeros and "))
 }
 
+// This, `misspelt` and `twice` are rows of document 01, each with an input and texts of its own.
 pub(crate) fn frame(tally: &mut Tally) {
     let input = zero_input();
     tally.add(

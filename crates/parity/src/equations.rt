@@ -75,6 +75,7 @@ impl Block<'_> {
 }
 
 // The rule for an equation that isn't met.
+// A match of two arms: a table or a closure is no plainer, and `check_rule` of frames gives other rules.
 fn equation_rule(subframe: Subframe) -> Rule
     ensures { number result ≡ equation_number subframe }
 {

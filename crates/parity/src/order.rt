@@ -21,6 +21,8 @@ const COLUMNS: usize = 46;
 // ---- places
 
 // Where the symbol at `index` leaves.
+// This and `stood_at` are two rules of a line, each the other backwards; with rows and columns as parameters they would need bounds. So are
+// `place_in_order` and `place_before`, which are public.
 fn leaves_at(index: usize) -> usize
     ensures { result ≡ leaves_at index }
 {
@@ -89,6 +91,7 @@ fn judge_bits_behind(before: usize, bytes: &[u8]) -> Result<(), Refusal>
 // ---- into order
 
 // The symbol at `index` of the blocks one after another.
+// Both blocks are lent one by one, since `interleave` is public and takes them so.
 fn symbol_at(block2: &[u8], block3: &[u8], index: usize) -> u8
     requires { index < length block2.now + length block3.now }
     ensures { result ≡ get_or (block2.now ++ block3.now) index 0 }
@@ -100,6 +103,7 @@ fn symbol_at(block2: &[u8], block3: &[u8], index: usize) -> u8
 }
 
 // The symbols of both blocks as they leave.
+// This reads two slices and writes one, `take_block` and `deinterleave` the other way: one loop for both would take a closure.
 fn put_in_order(block2: &[u8], block3: &[u8], symbols: &mut [u8])
     requires { (length block2.now + length block3.now ≡ SYMBOLS) × (length symbols.old ≡ SYMBOLS) }
     ensures { symbols.new ≡ interleaved (block2.now ++ block3.now) }

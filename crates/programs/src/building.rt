@@ -34,6 +34,7 @@ fn split_line(input: &[u8]) -> Option<(&[u8], &[u8])>
 }
 
 // The frame of a sheet's numbers, toi's first, and of a page.
+// The time by `as`: the clause says that it fits, and `try_from` would answer what cannot be. The bits are those of a page line, judged once.
 fn build_numbers(numbers: &[i64; 34], page: &[u8; PAGE_BITS]) -> Result<[u8; FRAME], Refusal>
     requires { AllInRange sheet_fields numbers.now × IsBits page.now }
     ensures { result
@@ -75,6 +76,7 @@ fn build_input(input: &[u8]) -> Result<[u8; FRAME], Refusal>
 }
 
 // The symbols of a frame, as characters, and a newline.
+// Asked for: that the symbols are bits. `build` alone says so, and a type would be made for this one call.
 fn frame_output(frame: &[u8; FRAME]) -> Output
     requires { IsBits frame.now }
     ensures { result ≡ output_of (symbol_line frame.now) }

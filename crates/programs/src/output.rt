@@ -17,6 +17,7 @@ use words::refusal::Refusal;
 const OUTPUT_BYTES: usize = FRAME + 1;
 
 // The bytes printed, with zeros behind them, and how many they are.
+// Public, and fixed memory: there is no heap for a `Vec`.
 #[derive(Clone, Copy)]
 pub struct Output {
     pub bytes: [u8; OUTPUT_BYTES],
@@ -82,6 +83,7 @@ impl Output {
 }
 
 // `refused N at P` and a newline; the digits are written as those of a sheet.
+// Not by `write!`: a proof would know what it puts only by a `fmt::Write` of our own, of more lines than this.
 pub(crate) fn refusal_output(refusal: Refusal) -> Output
     ensures { result ≡ output_of (refusal_text refusal.number refusal.place) }
 {

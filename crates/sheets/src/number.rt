@@ -62,6 +62,8 @@ fn read_negative(field: Field, text: &[u8]) -> Option<i64>
 }
 
 // The number without a sign.
+// Two functions: behind a `-` zero is no number, and the sign as a parameter would be a switch. A field and its text come as `judge_line` has
+// them. `Field` is public and anyone may set its range, so that a number fits it is asked for.
 fn read_positive(field: Field, text: &[u8]) -> Option<i64>
     requires { field.most + 1 < BEYOND }
     ensures { result ≡ positive_read field text.now }

@@ -15,6 +15,7 @@ pub(crate) fn first(bytes: &[u8], b: u8) -> Option<usize>
 }
 
 // How many bytes stand before the first byte `b`: all, where there is none.
+// Not an Option: its clause, by `index_of`, promises the number of bytes.
 pub fn find(bytes: &[u8], b: u8) -> usize
     ensures { result ≡ index_of b bytes.now }
 {
@@ -25,6 +26,7 @@ pub fn find(bytes: &[u8], b: u8) -> usize
 pub(crate) const SHEET_BYTES: usize = 800;
 
 // A text that is written piece by piece, with room for such a sheet.
+// Fixed memory: there is no heap for a `Vec`, and the library stands on std alone.
 #[derive(Drop)]
 pub(crate) struct Text {
     bytes: [u8; SHEET_BYTES],

@@ -31,6 +31,7 @@ pub(crate) fn find_start(bytes: &[u8]) -> Option<usize>
 }
 
 // The same, and how many bytes there are, where there is no such trailer.
+// Not an Option: its clause, by `start_of`, promises the number of bytes.
 pub fn sheet_start(bytes: &[u8]) -> usize
     ensures { result ≡ start_of bytes.now }
 {
@@ -38,6 +39,7 @@ pub fn sheet_start(bytes: &[u8]) -> usize
 }
 
 // Puts the trailer behind the lines of a sheet.
+// Five digits with leading zeros: without heap, `{:05}` has nowhere to be written that a proof knows.
 pub(crate) fn put_trailer(sheet: &mut Text)
     requires { length sheet.old + TRAILER_BYTES ≤ SHEET_BYTES }
     ensures { sheet.new ≡ sheet.old ++ trailer_text (length sheet.old) }

@@ -17,6 +17,7 @@ use words::refusal::{Refusal, Rule};
 
 // Writes a text from the first lent byte on, and gives its length; the bytes behind it stay. Refused 16 at 0 where the text has more bytes
 // than are lent.
+// This and `write_decimal` are public and write into lent bytes: there is no heap for a `String`.
 pub fn write_text(text: &[u8], out: &mut [u8]) -> Result<usize, Refusal>
     ensures { (result ≡ text_written text.now out.old) × (out.new ≡ text_bytes text.now out.old) }
 {

@@ -28,6 +28,7 @@ pub(crate) fn zero_sheet() {
 }
 
 // Refused, and what was lent stays.
+// It calls its function itself: a common one would take a closure and six arguments.
 fn stays<const N: usize>(text: &[u8], numbers: &[i64], number: u8, place: usize)
     requires { N ≤ 300 }
 {

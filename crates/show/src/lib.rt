@@ -26,6 +26,7 @@ pub fn is_done<T>(answer: &Result<T, Refusal>) -> bool
     answer.is_ok()
 }
 
+// The number is any byte, as `refuse` takes and gives each: a `Rule` would ask more of callers. So it is in `refused`.
 pub fn is_refused<T>(answer: &Result<T, Refusal>, number: u8, place: usize) -> bool
     ensures { result ≡ is_refused answer.now number place }
 {

@@ -30,6 +30,7 @@ pub enum Submatrix {
 }
 
 // How many equations a subframe has; its data symbols are as many.
+// A match of two arms: a table or a closure is no plainer.
 pub fn equations(subframe: Subframe) -> usize
     ensures { result ≡ (matrix_of subframe).equations }
 {

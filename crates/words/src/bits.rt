@@ -18,6 +18,7 @@ fn are_bits(bytes: &[u8]) -> bool
 }
 
 // The index of the first byte that is neither 0 nor 1, or the length.
+// Not an Option: its clause, by the definition `first_not_bit`, promises the length.
 pub fn first_not_bit(bytes: &[u8]) -> usize
     ensures { result ≡ first_not_bit bytes.now }
 {
@@ -41,7 +42,8 @@ pub fn judge_bits(bytes: &[u8]) -> Result<(), Refusal>
     Ok(())
 }
 
-// ---- taking
+// ---- taking: with and without a sign are two functions, here and in putting, since each goes by definitions of its own; a trait over both
+// takes more lines than it saves. `at` and `width` come apart, as the public functions take them.
 
 // `width` bytes from `at` on, at most 64, as far as they are there.
 fn bits_at(bytes: &[u8], at: usize, width: usize) -> &[u8]
@@ -78,6 +80,7 @@ fn largest(width: usize) -> u64
 }
 
 // -(n + 1)
+// -(n + 1) is no conversion of the library; must-fail edits quote it in `magnitude`.
 fn below_zero(n: u64) -> i64
     requires { n < 2 ^ 63 }
     ensures { result ≡ negsuc n }
@@ -205,7 +208,8 @@ pub fn put_signed(bytes: &mut [u8], at: usize, width: usize, number: i64) -> Res
 
 // ---- copying
 
-// Copies bytes over as many others; refused 1 at 0 where they are not as many.
+// Copies bytes over as many others; refused 1 at 0 where they are not as many. For callers: the library itself knows the lengths where it
+// copies, and does so by `copy_from_slice`.
 pub fn copy(from: &[u8], into: &mut [u8]) -> Result<(), Refusal>
     ensures { (result ≡ copy_answer from.now into.old) × (into.new ≡ copy_bytes from.now into.old) }
 {

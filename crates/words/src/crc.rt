@@ -36,6 +36,7 @@ pub fn remainder(bits: &[u8]) -> u32
 }
 
 // The check bits of the bits, as a number.
+// It goes on where `remainder` ends, with 24 zeros: one function would do both by a switch.
 pub fn check_bits(bits: &[u8]) -> u32
     ensures { result ≡ check_of bits.now }
 {
