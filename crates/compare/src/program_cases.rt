@@ -58,6 +58,7 @@ fn write_characters(frame: &[u8; 1800], text: &mut [u8]) {
     set_byte(text, 1801, b'0');
 }
 
+// Any symbol but 1 is told as `0`: `b'0' + symbol` would ask for a bound on what is read.
 fn character(symbol: u8) -> u8 {
     if symbol == 1 { b'1' } else { b'0' }
 }

@@ -56,7 +56,8 @@ pub(crate) fn name_position(name: &[u8]) -> Option<usize>
 }
 
 // The field of the name at this position, from 0; past the last one, a field of no bits.
-// Not an Option: it hands on what `field_at` gives.
+// Not an Option: it hands on what `field_at` gives. The names are of the sheet and the fields those of `fields`, in the same order: one list
+// of both would say the fields twice.
 pub(crate) fn listed_field(k: usize) -> Field
     ensures { result ≡ get_or sheet_fields k no_field }
 {
