@@ -165,6 +165,7 @@ pub(crate) fn taken_bare() {
 // ---- not taken
 
 // Refused. Nothing can stand beside it: the second text is as it was printed when zeros did.
+// frames_trial has the like of it for `read`: one for both would be a public function of `show`, no plainer for two callers.
 fn refuses(text: &[u8], bits: &[u8], number: u8, place: usize) {
     let taken = take_page(bits);
     refused(text, &taken, number, place);

@@ -66,6 +66,7 @@ fn with_number(text: &[u8], at: usize, width: usize, number: u64) -> [u8; 576] {
 }
 
 // Zeros with one other count.
+// frames_trial has it too: one for both would be a public function of `show` with a `requires`, and none of the product has one.
 pub(crate) fn with_count(k: usize, count: i64) -> [i64; 33]
     requires { k < 33 }
 {

@@ -137,6 +137,7 @@ pub(crate) fn times() {
 }
 
 // Zeros with one other count.
+// fields_trial has it too: one for both would be a public function of `show` with a `requires`, and none of the product has one.
 fn counts_with(k: usize, count: i64) -> [i64; 33]
     requires { k < 33 }
 {

@@ -51,6 +51,7 @@ pub(crate) fn parts_alone(symbols: &[u8], parts: Parts) {
 
 // ---- refusals: nothing can stand beside them; the texts are as they were printed when zeros did
 
+// fields_trial has the like of it for `take_page`: one for both would be a public function of `show`, no plainer for two callers.
 pub(crate) fn no_frame(text: &[u8], symbols: &[u8], number: u8, place: usize) {
     let frame = read(symbols);
     refused(text, &frame, number, place);
