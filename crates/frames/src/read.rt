@@ -66,14 +66,22 @@ pub fn read_time(frame: &[u8]) -> Result<Time, Refusal>
 pub fn read_subframe2(frame: &[u8]) -> Result<[i64; 33], Refusal>
     ensures { result ≡ subframe2_alone frame.now }
 {
-    counts_of(&Symbols::of(frame)?.blocks().two)
+    let symbols = Symbols::of(frame)?;
+    let mut two = [0u8; 1200];
+    let mut three = [0u8; 548];
+    symbols.take_blocks(&mut two, &mut three);
+    counts_of(&two)
 }
 
 // The page bits of subframe 3; refused 1, 2, then 7 8 9.
 pub fn read_subframe3(frame: &[u8]) -> Result<[u8; 250], Refusal>
     ensures { result ≡ subframe3_alone frame.now }
 {
-    page_of(&Symbols::of(frame)?.blocks().three)
+    let symbols = Symbols::of(frame)?;
+    let mut two = [0u8; 1200];
+    let mut three = [0u8; 548];
+    symbols.take_blocks(&mut two, &mut three);
+    page_of(&three)
 }
 
 // The contents of a frame; refused 1, 2, then 3, then 4 5 6, then 7 8 9.
@@ -82,9 +90,11 @@ pub fn read(frame: &[u8]) -> Result<Frame, Refusal>
 {
     let symbols = Symbols::of(frame)?;
     let time = symbols.time()?;
-    let blocks = symbols.blocks();
-    let counts = counts_of(&blocks.two)?;
-    let page = page_of(&blocks.three)?;
+    let mut two = [0u8; 1200];
+    let mut three = [0u8; 548];
+    symbols.take_blocks(&mut two, &mut three);
+    let counts = counts_of(&two)?;
+    let page = page_of(&three)?;
     Ok(Frame {
         toi: time.toi,
         corrected: time.corrected,

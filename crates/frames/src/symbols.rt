@@ -20,13 +20,6 @@ pub(crate) struct Symbols<'a> {
     ghost bits: { IsBits all.now },
 }
 
-// The blocks of both subframes.
-#[derive(Clone, Copy)]
-pub(crate) struct Blocks {
-    pub(crate) two: [u8; 1200],
-    pub(crate) three: [u8; 548],
-}
-
 impl<'a> Symbols<'a> {
     // What is lent as a frame; refused 1 at 0 for another length, 2 at the first byte that is no bit.
     pub(crate) fn of(frame: &'a [u8]) -> Result<Symbols<'a>, Refusal>
@@ -48,13 +41,10 @@ impl<'a> Symbols<'a> {
         read_time(&self.all[..52])
     }
 
-    // The blocks of both subframes.
-    pub(crate) fn blocks(self) -> Blocks
-        ensures { (result.two ≡ subframe_in Two self.entry.all.now) × (result.three ≡ subframe_in Three self.entry.all.now) }
+    // The blocks of both subframes, into room for them.
+    pub(crate) fn take_blocks(self, two: &mut [u8; 1200], three: &mut [u8; 548])
+        ensures { (two.new ≡ subframe_in Two self.entry.all.now) × (three.new ≡ subframe_in Three self.entry.all.now) }
     {
-        let mut two = [0u8; 1200];
-        let mut three = [0u8; 548];
-        deinterleave(&self.all[52..], &mut two, &mut three).unwrap();
-        Blocks { two, three }
+        deinterleave(&self.all[52..], two, three).unwrap();
     }
 }
