@@ -8,14 +8,15 @@ def close(s, i, a, b):
 for path in sorted(glob.glob('crates/*/src/*.rt')):
     _, crate, _, name = path.split('/')
     text = re.sub(r'^ghost use.*$|//.*$', '', open(path, encoding='utf-8').read(), flags=re.M)
-    for m in re.finditer(r'\bfn (\w+)(?:<[^>]*>)?\(', text):
+    for m in re.finditer(r'\bfn (\w+)(?:<(?:->|[^<>]|<[^<>]*>)*>)?\(', text):
         end = close(text, m.end() - 1, '(', ')')
         rest, cut = text[end + 1:], {}
         result = re.match(r'\s*->\s*([^{]*?)\s*(?=requires|ensures|\{)', rest)
         at = result.end() if result else 0
-        for word in ('requires', 'ensures'):
-            c = re.match(r'\s*' + word + r'\s*\{', rest[at:])
-            if c: e = close(rest, at + c.end() - 1, '{', '}'); cut[word] = rest[at + c.end():e]; at = e + 1
+        while c := re.match(r'\s*(requires|ensures)(?: \w+)?\s*\{', rest[at:]):
+            e = close(rest, at + c.end() - 1, '{', '}')
+            cut[c[1]] = (cut[c[1]] + ' × ' if c[1] in cut else '') + rest[at + c.end():e].strip()
+            at = e + 1
         b = rest.index('{', at)
         row = [crate, name[:-3], m[1], text[m.end():end], result[1] if result else '', cut.get('requires', ''), cut.get('ensures', ''), rest[b + 1:close(rest, b, '{', '}')]]
         print('\t'.join(' '.join(c.split()).rstrip(',') for c in row))

@@ -21,7 +21,7 @@ pub(crate) enum Kind {
     FrameReadBack,
 }
 
-// How many kinds there are.
+// How many kinds there are: the size of `ALL` and of a tally, fixed memory.
 pub(crate) const KINDS: usize = 17;
 
 // In the order in which they are printed.

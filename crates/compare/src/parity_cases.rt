@@ -10,6 +10,7 @@ use tables::matrix::Subframe;
 use words::refusal::Rule;
 
 // The first half of a block is its data. It is lent with ones in the other, so its parity is wrong until the library fills it.
+// Asked for, here and below: that `N` is small. An array of any `N` may be larger than there is memory, and no type says how large.
 pub(crate) fn filled_agrees<const N: usize>(subframe: Subframe) -> bool
     requires { N ≤ 1200 }
 {

@@ -28,6 +28,7 @@ pub(crate) fn sheet_written_agrees(base: &mut Base, text: &mut [u8]) -> bool {
 }
 
 // Behind the sheet, or everywhere where it is refused, what was lent has to stay as it was.
+// What is told, the room and the numbers come as they are read from the line; a type of them would be no plainer.
 fn writing_agrees(numbers: &[i64; 34], room: Option<usize>, told: Told, expected: &[u8]) -> bool {
     let mut out = [GARBAGE; 5000];
     first_written_agree(numbers, &mut out, room, told, expected.len())

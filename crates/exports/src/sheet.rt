@@ -23,6 +23,7 @@ fn has_lengths(bytes: usize, numbers: usize) -> bool
 
 // Reads the sheet at the end of the bytes into 34 numbers, toi's first, and says how many bytes stand before it. Refused 1 (also for 2^32
 // bytes or more), 10, then line by line 11 12 13 14, then 15.
+// The C interface: see `l1c_read_time`.
 pub fn l1c_read_sheet(bytes: &[u8], contents: &mut [i64]) -> u64
     ensures { (result ≡ code_of (sheet_call bytes.now contents.old) (sheet_before (sheet_read bytes.now)))
         × (contents.new ≡ sheet_call_numbers bytes.now contents.old) }

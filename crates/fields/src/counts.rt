@@ -52,6 +52,7 @@ impl Table {
         ensures { counts.new ≡ counts_in (fields_in self) (drop from bits.now) }
     {
         let mut at = from;
+        // by place and not by `zip`: of a slice that is written so a proof knows no element.
         for (k, field) in fields_of(self).iter().enumerate() {
             counts[k] = field.read(bits, at);
             at += field.width;

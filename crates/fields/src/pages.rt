@@ -158,7 +158,8 @@ fn number_in(bits: &[u8]) -> u8
 // ---- taking
 
 // The counts of a page's fields, and zeros behind them.
-// Asked for: 250 bits, and the kind beside them. Public functions take a page as a slice, so a type of both would be made in each of them.
+// Asked for: 250 bits, and the kind beside them. Four functions read 250 bits and two write them, so it
+// would take two types, for six lines.
 fn counts_of(kind: Kind, bits: &[u8]) -> [i64; 30]
     requires { length bits.now ≡ PAGE_BITS }
     ensures { result ≡ (record_of kind bits.now).counts }

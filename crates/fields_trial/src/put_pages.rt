@@ -26,6 +26,7 @@ fn page_with(kind: Kind, number: u8, k: usize, count: i64, at: usize, byte: u8) 
 
 // Into as many bytes: refused, and they stay.
 // It calls `put_page` itself: a closure of that call at each place below would be no plainer.
+// Asked for, here and below: that `N` is small. An array of any `N` may be larger than there is memory, and no type says how large.
 fn stays_in<const N: usize>(text: &[u8], page: Page, number: u8, place: usize)
     requires { N ≤ 251 }
 {

@@ -66,7 +66,8 @@ fn with_number(text: &[u8], at: usize, width: usize, number: u64) -> [u8; 576] {
 }
 
 // Zeros with one other count.
-// frames_trial has it too: one for both would be a public function of `show` with a `requires`, and none of the product has one.
+// frames_trial has it too, known the like: one for all would be public in `show`, with a contract and wrong programs of its own, for five
+// lines.
 pub(crate) fn with_count(k: usize, count: i64) -> [i64; 33]
     requires { k < 33 }
 {

@@ -60,6 +60,7 @@ impl<'a> Contents<'a> {
     }
 
     // The frame of the time, of the bits of subframe 2, which stand in front of its block, and of the page.
+    // The room is what `build` has judged.
     fn write_frame(self, two: &mut [u8; 1200], frame: &mut [u8])
         requires { IsBits (take BITS_2 two.old) × (length frame.old ≡ FRAME) }
         ensures { frame.new ≡ symbols_from self.entry.toi (take BITS_2 two.old) self.entry.page.now }
@@ -71,6 +72,7 @@ impl<'a> Contents<'a> {
     }
 
     // Judges the counts and the page, and where nothing is refused writes the frame; `two` is room for the block of subframe 2.
+    // The room is what `build` has judged.
     fn build_in(self, two: &mut [u8; 1200], frame: &mut [u8]) -> Result<(), Refusal>
         requires { length frame.old ≡ FRAME }
         ensures { (result ≡ in_turn (counts_answer self.entry.counts.now) (range_answer self.entry.page.now))

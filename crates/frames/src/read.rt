@@ -63,6 +63,7 @@ pub fn read_time(frame: &[u8]) -> Result<Time, Refusal>
 }
 
 // The counts of subframe 2; refused 1, 2, then 4 5 6.
+// This and `read_subframe3` have room for both blocks each, lent and not handed back, so that a block lies once on the stack.
 pub fn read_subframe2(frame: &[u8]) -> Result<[i64; 33], Refusal>
     ensures { result ≡ subframe2_alone frame.now }
 {

@@ -20,6 +20,7 @@ pub(crate) fn zeros() {
 
 // Into a frame of that length: refused, and it stays, which the text `then` says.
 // It calls `build` itself: a closure of that call at each place below would be no plainer.
+// Asked for, here and below: that `N` is small. An array of any `N` may be larger than there is memory, and no type says how large.
 fn stays_in<const N: usize>(
     text: &[u8],
     then: &[u8],
@@ -137,7 +138,8 @@ pub(crate) fn times() {
 }
 
 // Zeros with one other count.
-// fields_trial has it too: one for both would be a public function of `show` with a `requires`, and none of the product has one.
+// fields_trial has it too, known the like: one for all would be public in `show`, with a contract and wrong programs of its own, for five
+// lines.
 fn counts_with(k: usize, count: i64) -> [i64; 33]
     requires { k < 33 }
 {

@@ -103,6 +103,7 @@ fn frame_of(mut two: [u8; 1200], mut three: [u8; 548]) -> Result<[u8; 1800], Ref
 }
 
 // The block with the check bits behind its other data symbols.
+// Asked for, here and below: that `N` is small. An array of any `N` may be larger than there is memory, and no type says how large.
 fn checked<const N: usize>(mut block: [u8; N]) -> [u8; N]
     requires size { N ≤ 1200 }
     requires room { 48 ≤ N }

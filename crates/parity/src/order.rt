@@ -103,7 +103,8 @@ fn symbol_at(block2: &[u8], block3: &[u8], index: usize) -> u8
 }
 
 // The symbols of both blocks as they leave.
-// This reads two slices and writes one, `take_block` and `deinterleave` the other way: one loop for both would take a closure.
+// This reads two slices and writes one, `take_block` and `deinterleave` the other way: one loop for both would take a closure
+// and be no plainer.
 fn put_in_order(block2: &[u8], block3: &[u8], symbols: &mut [u8])
     requires { (length block2.now + length block3.now ≡ SYMBOLS) × (length symbols.old ≡ SYMBOLS) }
     ensures { symbols.new ≡ interleaved (block2.now ++ block3.now) }

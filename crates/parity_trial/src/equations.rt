@@ -53,6 +53,7 @@ pub(crate) fn lengths() {
 }
 
 // With a text for garbage, one for a last byte 2, and one for a byte 254 in the place of p1.
+// Asked for, here and below: that `N` is small. An array of any `N` may be larger than there is memory, and no type says how large.
 fn no_bits_of<const N: usize>(of_garbage: &[u8], last: &[u8], p1: &[u8], subframe: Subframe)
     requires size { N ≤ 1200 }
     requires middle { 2 ≤ N }

@@ -7,6 +7,7 @@ use show::{done, expected, refused};
 use tables::matrix::Subframe;
 use words::bits::put_number;
 
+// Asked for, here and below: that `N` is small. An array of any `N` may be larger than there is memory, and no type says how large.
 fn filled<const N: usize>(text: &[u8], subframe: Subframe, mut block: [u8; N])
     requires { N ≤ 1200 }
 {

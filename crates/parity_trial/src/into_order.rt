@@ -70,6 +70,7 @@ pub(crate) fn single_ones() {
 
 // Into as many symbols: refused, and they stay.
 // It calls `interleave` itself: a closure of that call at each place below would be no plainer.
+// Asked for, here and below: that `N` is small. An array of any `N` may be larger than there is memory, and no type says how large.
 fn stays<const N: usize>(text: &[u8], block2: &[u8], block3: &[u8], number: u8, place: usize)
     requires { N ≤ 1749 }
 {

@@ -47,6 +47,7 @@ fn build_numbers(numbers: &[i64; 34], page: &[u8; PAGE_BITS]) -> Result<[u8; FRA
 }
 
 // The frame of the sheet behind the page line. Refused 10 at 0 where it does not begin right there, then as the sheet, then as the frame.
+// The bits are those of the page line, judged once.
 fn build_behind(page: &[u8; PAGE_BITS], bytes: &[u8]) -> Result<[u8; FRAME], Refusal>
     requires { IsBits page.now }
     ensures { result ≡ given_by (behind_answer page.now bytes.now) (frame_of (sheet_contents page.now bytes.now)) }

@@ -28,6 +28,7 @@ fn set_symbols(characters: &[u8], symbols: &mut [u8])
     requires { (length characters.now ≡ length symbols.old) × (first_other characters.now ≡ length characters.now) }
     ensures { symbols.new ≡ symbols_in characters.now }
 {
+    // by place and not by `zip`: of a slice that is written so a proof knows no element.
     for (i, character) in characters.iter().enumerate() {
         symbols[i] = *character - b'0';
     }
@@ -49,10 +50,12 @@ pub(crate) fn take_symbols<const N: usize>(characters: &[u8]) -> Result<[u8; N],
 }
 
 // Writes symbols as characters over as many bytes.
+// Asked for: bits. Who lends them has judged them, and a type would be made for this one call.
 pub(crate) fn set_characters(symbols: &[u8], characters: &mut [u8])
     requires { IsBits symbols.now × (length symbols.now ≡ length characters.old) }
     ensures { characters.new ≡ characters_of symbols.now }
 {
+    // by place and not by `zip`: of a slice that is written so a proof knows no element.
     for (i, symbol) in symbols.iter().enumerate() {
         characters[i] = b'0' + *symbol;
     }

@@ -29,6 +29,7 @@ fn numbers_found(found: &Found) -> [i64; LISTED]
     ensures { result ≡ map (λ number. unwrap_or number (pos 0)) found.now }
 {
     let mut numbers = [0i64; LISTED];
+    // by place: of a slice that is written by `zip` a proof knows no element, and a proof of `found.map(..)` did not close
     for (k, number) in found.iter().enumerate() {
         numbers[k] = number.unwrap_or(0);
     }

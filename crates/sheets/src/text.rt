@@ -26,7 +26,8 @@ pub fn find(bytes: &[u8], b: u8) -> usize
 pub(crate) const SHEET_BYTES: usize = 800;
 
 // A text that is written piece by piece, with room for such a sheet.
-// Fixed memory: there is no heap for a `Vec`, and the library stands on std alone.
+// Fixed memory: there is no heap for a `Vec`, and the library stands on std alone. `Output` of programs is the like of it, and public: an
+// invariant would ask something of whoever makes one.
 #[derive(Drop)]
 pub(crate) struct Text {
     bytes: [u8; SHEET_BYTES],

@@ -63,6 +63,7 @@ fn ones_of(subframe: Subframe, submatrix: Submatrix) -> &'static [(u16, u16)]
 
 // For each one of a submatrix, adds the symbol at its column modulo 2 to the sum of its row, both counted from 1. A symbol past the
 // end counts as 0, and a sum past the end is not kept.
+// This and `solve` are public, one line each over `ones_of`.
 pub fn add(subframe: Subframe, submatrix: Submatrix, symbols: &[u8], sums: &mut [u8])
     ensures { sums.new ≡ added (submatrix_of (matrix_of subframe) submatrix) symbols.now sums.old }
 {

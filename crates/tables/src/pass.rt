@@ -37,6 +37,7 @@ pub(crate) fn add_ones(table: &[(u16, u16)], symbols: &[u8], sums: &mut [u8])
 
 // Forward substitution: from the sums of the rows of T, in place, to the unknowns. The unknown of a one's column, known by now, is
 // added to that of its row; a one of the diagonal asks for nothing.
+// A function of its own: it reads the unknowns that it changes, and `add_ones` would be lent them twice.
 pub(crate) fn solve_ones(table: &[(u16, u16)], unknowns: &mut [u8])
     ensures { unknowns.new ≡ solved (ones table.now) unknowns.old }
 {

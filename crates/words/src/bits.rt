@@ -79,8 +79,7 @@ fn largest(width: usize) -> u64
     u64::MAX >> (64 - width)
 }
 
-// -(n + 1)
-// -(n + 1) is no conversion of the library; must-fail edits quote it in `magnitude`.
+// -(n + 1), which is no conversion of the library.
 fn below_zero(n: u64) -> i64
     requires { n < 2 ^ 63 }
     ensures { result ≡ negsuc n }
@@ -88,7 +87,7 @@ fn below_zero(n: u64) -> i64
     -1 - n as i64
 }
 
-// n
+// n, by `as`: the clause says that it fits, and `try_from` would answer what cannot be.
 fn not_below_zero(n: u64) -> i64
     requires { n < 2 ^ 63 }
     ensures { result ≡ pos n }
@@ -129,7 +128,7 @@ pub fn take_signed(bytes: &[u8], at: usize, width: usize) -> i64
 
 // ---- putting
 
-// The number is n or -(n + 1): that n.
+// The number is n or -(n + 1): that n. Not `unsigned_abs`, which gives n + 1; must-fail edits quote the line.
 pub fn magnitude(z: i64) -> u64
     ensures { result ≡ mag z }
 {

@@ -44,7 +44,7 @@ impl Rule {
     }
 }
 
-// A refusal: the number of a row of the table, and the place.
+// A refusal: the number, of a row of the table where the library refuses, and any byte by `refuse`, and the place.
 #[derive(Clone, Copy, PartialEq, Eq)]
 pub struct Refusal {
     pub number: u8,

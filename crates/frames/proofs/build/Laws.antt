@@ -1,20 +1,20 @@
 -- The parts of a frame, put one after another.
 -- Assumes nothing.
 use mathlib.Core.Path.{◌≡◌, refl, sym, ap, ap₂, ◌∙◌}
-use mathlib.Core.Bool.{true, false, ◌&&◌, and-eq-true_iff}
+use mathlib.Core.Bool.{true, ◌&&◌, and-eq-true_iff}
 use mathlib.Core.List.{List, ◌++◌, append-nil}
-use Prim.Native.Nat.{ℕ, ◌-◌, ◌≤◌, ◌<◌}
+use Prim.Native.Nat.{ℕ, ◌-◌, ◌≤◌}
 use native.Mathlib.Omega.{arith}
 use lib.Dec.{eqb}
 use lib.IntN.{ℤ}
 use lib.ListN.{length, take, drop, length-append, length-drop, drop_of_length-le}
 use lib.Seq.{take_at, length-take-le}
-use borrow.Author.Tests.{eqb-true, eq-eqb, le-leb, lt-leb}
-use Rattle.words.specs.Bits.{IsBits, bits_judged, first_not_bit}
+use borrow.Author.Tests.{eqb-true, eq-eqb, le-leb}
+use Rattle.words.specs.Bits.{IsBits, first_not_bit}
 use Rattle.words.specs.Time.{time_word, time_answer, time_bytes}
-use Rattle.words.specs.Refusal.{LENGTH, TIME, FIELD_2, refused_at, in_turn, left_by, Answer, Done}
+use Rattle.words.specs.Refusal.{FIELD_2, in_turn, left_by, Answer, Done}
 use Rattle.words.specs.declared.refusal.Refusal.{Refusal}
-use Rattle.words.specs.Laws.Turns.{test_done, judged_turns}
+use Rattle.words.specs.Laws.Turns.{test_done}
 use Rattle.words.specs.Laws.Words.{word_length}
 use Rattle.parity.specs.InOrder.{interleave_done}
 use Rattle.parity.specs.Order.{interleaved, interleave_answer, interleave_bytes}
@@ -25,7 +25,7 @@ use Rattle.fields.specs.Subframe2.{bits2, counts_answer, fields_written, fields_
 use Rattle.fields.specs.Pages.{range_answer}
 use Rattle.fields.specs.Laws.Table.{count_subframe2}
 use Rattle.fields.specs.declared.table.Table.TheVariants.{Subframe2}
-use Rattle.frames.specs.Build.{contents_of, contents_answer, build_lengths, build_answer, build_bytes}
+use Rattle.frames.specs.Build.{contents_of, build_lengths, build_answer, build_bytes}
 use Rattle.frames.specs.Frame.{Contents, frame_of}
 use Rattle.frames.specs.Laws.Steps.{symbols_from}
 use Rattle.std.specs.Prelude.{Err}
@@ -106,9 +106,6 @@ module _ (zs : List ℤ) (two : List ℕ) (many : length zs ≡ 33) (wide : leng
 -- ---- two judgements in turn: what is answered, and what is left in the frame
 
 module _ (a b x : Answer) (new out f : List ℕ) where
-  pub first_refused : (r : Refusal) → a ≡ Err r → x ≡ Err r → out ≡ f → (x ≡ in_turn a b) × (out ≡ left_by (in_turn a b) new f)
-  first_refused r e g same = rw e (g, same)
-
   pub second_refused : (r : Refusal) → a ≡ Done → b ≡ Err r → x ≡ Err r → out ≡ f
       → (x ≡ in_turn a b) × (out ≡ left_by (in_turn a b) new f)
   second_refused r e g h same = rw (e, g) (h, same)
@@ -132,19 +129,8 @@ module _ (toi : ℕ) (zs : List ℤ) (page f : List ℕ) where
   abbrev pub Built : Answer → List ℕ → Type 0
   Built x out = (x ≡ build_answer contents f) × (out ≡ build_bytes contents f)
 
-  pub wrong_sizes : (x : Answer) → build_lengths contents f ≡ false → x ≡ refused_at LENGTH 0 → Built x f
-  wrong_sizes x e g = rw e (g, refl)
-
   module _ (x : Answer) (sizes : build_lengths contents f ≡ true) where
-    pub wrong_byte : (r : Refusal) → bits_judged page ≡ Err r → x ≡ Err r → Built x f
-    wrong_byte r e g =
-        rw (judged_turns (build_lengths contents f) (eqb (first_not_bit page) (length page)) (first_not_bit page) (contents_answer contents), sizes, e)
-        (g, refl)
-
     module _ (bits : first_not_bit page ≡ length page) where
-      pub wrong_time : 399 < toi → x ≡ refused_at TIME 0 → Built x f
-      wrong_time e g = rw (sizes, eq-eqb (first_not_bit page) (length page) bits, lt-leb toi 399 e) (g, refl)
-
       pub all_judged : (out : List ℕ) → toi ≤ 399 → x ≡ in_turn (counts_answer zs) (range_answer page)
           → out ≡ left_by (in_turn (counts_answer zs) (range_answer page)) (symbols_from toi (bits2 zs) page) f → Built x out
       unfolding frame_of

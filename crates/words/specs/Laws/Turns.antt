@@ -4,7 +4,7 @@ use Rattle.std.specs.Prelude.{◌≡◌, refl, Bool, true, false, List, ℕ, Res
 use Rattle.std.proofs.Common.{sym, ap, arith}
 use borrow.Author.Tests.{eqb-true}
 use Rattle.words.specs.Bits.{bits_judged, first_not_bit}
-use Rattle.words.specs.Refusal.{LENGTH, NOT_A_BIT, Answer, Done, answer_of, given_by, refusal_at, refused_at, done_if, in_turn, judged, number_of}
+use Rattle.words.specs.Refusal.{NOT_A_BIT, Answer, Done, answer_of, given_by, refusal_at, refused_at, done_if, in_turn, judged, number_of}
 use Rattle.words.specs.declared.refusal.Refusal.{Refusal}
 use Rattle.std.specs.Result.{result_unwrap_or}
 
@@ -54,13 +54,6 @@ given_ok (Err r) x y e = absurd (not_done r.number r.place (ap answer_of e))
 -- lent bytes of the right length that are bits are judged by what else is answered
 pub judged_on : (l b : Bool) (first_not : ℕ) (a : Answer) → l ≡ true → b ≡ true → judged l b first_not a ≡ a
 judged_on l b first_not a e f = rw (e, f) refl
-
--- what is judged is the length, then the bits, then what else is answered
-pub judged_turns : (l b : Bool) (first_not : ℕ) (a : Answer)
-    → judged l b first_not a ≡ in_turn (done_if l LENGTH 0) (in_turn (done_if b NOT_A_BIT first_not) a)
-judged_turns true true first_not a = refl
-judged_turns true false first_not a = refl
-judged_turns false b first_not a = refl
 
 -- and only such are done
 pub judged_done : (l b : Bool) (first_not : ℕ) (a : Answer) → judged l b first_not a ≡ Done → (l ≡ true) × (b ≡ true) × (a ≡ Done)

@@ -2,8 +2,6 @@
 use mathlib.Core.Path.{◌≡◌, refl, sym, ap, ◌∙◌, subst}
 use mathlib.Core.List.{List}
 use Prim.Native.Nat.{ℕ}
-use native.Mathlib.Omega.{arith}
-use lib.Seq.{length-take-le}
 use Rattle.std.proofs.Common.{rules}
 use Rattle.std.specs.Prelude.{Err}
 use Rattle.words.specs.Bits.{IsBits}
@@ -13,19 +11,8 @@ use Rattle.fields.specs.Pages.{range_answer}
 use Rattle.fields.specs.Subframe2.{bits2, counts_answer}
 use Rattle.frames.specs.Laws.Steps.{symbols_from}
 use Rattle.frames.specs.Laws.Good.{page_judged}
-use Rattle.frames.proofs.build.Laws.{written_answer, fields_in_front, first_refused, second_refused, none_refused}
+use Rattle.frames.proofs.build.Laws.{written_answer, fields_in_front, second_refused, none_refused}
 use Rattle.frames.proofs.build.Contents.build_in.Goals as goal
-
-pub slice_bounds-write_fields-end-2 : goal.slice_bounds-write_fields-end-2
-slice_bounds-write_fields-end-2 c = sym (length-take-le 576 c.args.two.now (omega (arith, c.told-two)))
-
-pub returns-in_err-write_fields : goal.returns-in_err-write_fields
-returns-in_err-write_fields c =
-    let a = c.args in
-    let counts = a.self.counts.now in
-    let refused : c.from_residual.result ≡ Err c.in_err-write_fields.field-0.0 = search rules in
-    first_refused (counts_answer counts) (range_answer a.self.page.now) _ (symbols_from a.self.toi (bits2 counts) a.self.page.now) a.frame.now a.frame.now _
-    (sym (written_answer counts a.two.now c.args.self.count c.told-two) ∙ sym c.write_fields.ensures.0 ∙ c.in_err-write_fields.was) refused refl
 
 pub returns-in_err-judge_page : goal.returns-in_err-judge_page
 returns-in_err-judge_page c =

@@ -1,18 +1,10 @@
 -- `frames::build::Contents::write_page_block` meets its contract. Assumes nothing.
 use mathlib.Core.Path.{sym, ap, ◌∙◌, subst}
-use native.Mathlib.Omega.{arith}
-use lib.Seq.{length-take-le}
 use Rattle.words.specs.Bits.{IsBits}
 use Rattle.tables.specs.declared.matrix.Subframe.TheVariants.{Three}
 use Rattle.frames.specs.Frame.{subframe_of}
 use Rattle.frames.proofs.build.Laws.{page_in_front, still_548}
 use Rattle.frames.proofs.build.Contents.write_page_block.Goals as goal
-
-pub slice_bounds-copy_from_slice-end-2 : goal.slice_bounds-copy_from_slice-end-2
-slice_bounds-copy_from_slice-end-2 c = let start = c in sym (length-take-le 250 start.args.three.now (omega (arith, start.told-three)))
-
-pub copy_from_slice-requires : goal.copy_from_slice-requires
-copy_from_slice-requires c = length-take-le 250 c.args.three.now (omega (arith, c.told-three)) ∙ sym c.args.self.whole
 
 pub complete-requires : goal.complete-requires
 complete-requires c =
