@@ -175,8 +175,8 @@ fn put_bits(bytes: &mut [u8], at: usize, width: usize, number: u64)
     ensures { bytes.new ≡ sets bytes.old at (bits_of width number) }
 {
     let mut rest = number;
-    for place in (at..at + width).rev() {
-        bytes[place] = (rest % 2) as u8;
+    for left in (0..width).rev() {
+        bytes[at + left] = (rest % 2) as u8;
         rest /= 2;
     }
 }

@@ -95,6 +95,7 @@ fn nearest_time(symbols: u64) -> Result<Time, Refusal>
 }
 
 // The time that 52 symbols stand for; refused 1, 2, then 3 at 0 where no word from 0 to 399 is within nine.
+#[tactic(auto, using(crate::proofs::time::Laws::read_unfit, crate::proofs::time::Laws::read_refused, crate::proofs::time::Laws::read_found))]
 pub fn read_time(symbols: &[u8]) -> Result<Time, Refusal>
     ensures { result ≡ time_read symbols.now }
 {

@@ -144,15 +144,13 @@ sets_snoc l i (a ∷ bits) b =
     ∙ ap (λ (k : ℕ). set (set l k b) i a) (let e : suc i + length bits ≡ i + suc (length bits) = omega arith in e))
 
 -- as a loop that counts down has it
-pub bits_left : (l : List ℕ) (at place n : ℕ) → at < place
-    → sets (set l (place - 1) (n % 2)) at (bits_of (place - 1 - at) (n / 2)) ≡ sets l at (bits_of (place - at) n)
-bits_left l at place n h =
-    let rest = bits_of (place - 1 - at) (n / 2) in
-    let end : place - 1 ≡ at + length rest = omega (arith, length_bits (place - 1 - at) (n / 2)) in
-    let one : suc (place - 1 - at) ≡ place - at = omega arith in
-    ap (λ (k : ℕ). sets (set l k (n % 2)) at rest) end
-    ∙ sym (ap (λ (k : ℕ). sets l at (bits_of k n)) (sym one) ∙ ap (sets l at) (bits_snoc (place - 1 - at) n)
-    ∙ sets_snoc l at rest (n % 2))
+pub bits_left : (l : List ℕ) (at w n : ℕ) → 0 < w
+    → sets (set l (at + (w - 1)) (n % 2)) at (bits_of (w - 1) (n / 2)) ≡ sets l at (bits_of w n)
+bits_left l at w n h =
+    let less : suc (w - 1) ≡ w = omega arith in
+    ap (λ (k : ℕ). sets (set l (at + k) (n % 2)) at (bits_of (w - 1) (n / 2))) (sym (length_bits (w - 1) (n / 2)))
+    ∙ sym (sets_snoc l at (bits_of (w - 1) (n / 2)) (n % 2))
+    ∙ ap (sets l at) (sym (bits_snoc (w - 1) n) ∙ ap (λ (k : ℕ). bits_of k n) less)
 
 pub none_left : (l : List ℕ) (at w n : ℕ) → w ≤ 0 → sets l at (bits_of w n) ≡ l
 unfolding bits_of

@@ -13,17 +13,21 @@ use lib.Dec.{eqb, ltb}
 use lib.ListN.{length, get_or, take, drop, set, drop_of_length-le, length-drop}
 use lib.Seq.{take-suc-set, append_snoc, take_all}
 use borrow.Rule.Slice.PartMut.{put_mid}
-use borrow.Author.Tests.{le-leb, lt-leb, eqb-true, ltb-true}
-use Rattle.words.specs.Bits.{IsBits, value_of, bits_of, bits_at}
+use borrow.Author.Tests.{le-leb, lt-leb, ne_eqb, eqb-true, ltb-true}
+use Rattle.std.specs.Prelude.{Err}
+use Rattle.words.specs.declared.refusal.Refusal.{Refusal}
+use Rattle.words.specs.Bits.{IsBits, value_of, bits_of, bits_at, bits_judged}
 use Rattle.words.specs.Sums.{add2, sums, differing}
-use Rattle.words.specs.Refusal.{TIME, refused_at}
-use Rattle.words.specs.Time.{symbol_back, next_symbol, one_shift, shifted_out, top_bit, time_word, time_is, nearest_time}
+use Rattle.words.specs.Refusal.{LENGTH, TIME, Answer, Done, refused_at, in_turn}
+use Rattle.words.specs.Time.{symbol_back, next_symbol, one_shift, shifted_out, top_bit, time_word, time_is, nearest_time, time_read}
 use Rattle.words.specs.RoundTrip.{number_back, bits_back}
 use Rattle.words.specs.Linear.{word_linear}
 use Rattle.words.specs.Laws.Tests.{all_below, below_at}
-use Rattle.words.specs.Laws.Digits.{value_lt, length_bits, bits_are, bits_snoc, bits_mod}
+use Rattle.words.specs.Laws.Digits.{value_lt, length_bits, bits_are, bits_snoc, bits_mod, none_not_bit}
+use Rattle.words.specs.Laws.Judged.{read_bits, time_turns}
 use Rattle.words.specs.Laws.Sums.{sums_are, differing_weight}
 use Rattle.words.specs.Laws.Xor.{xor_assoc, value_sums, ones_value}
+use Rattle.words.specs.Laws.Turns.{bits_done}
 use Rattle.words.specs.Laws.Words.{word_length, word_are}
 
 -- ---- the register as a number
@@ -224,3 +228,21 @@ turn_at t h =
     subst
     (λ (x : ℕ). (count_trailing_zeros 16 x < 9) × (get_or turns (count_trailing_zeros 16 x) 0 ≡ value_of (time_word (bit_xor t x))))
     (sym (add-one t)) (right_at t h)
+
+-- ---- reading, by how the bits are judged
+
+-- without 52 symbols it is refused 1
+pub read_unfit : (s : List ℕ) → (length s ≡ 52 → ⊥) → time_read s ≡ refused_at LENGTH 0
+unfolding time_read
+read_unfit s e = rw (ne_eqb (length s) 52 e) refl
+
+-- where the bits are refused, that is the refusal
+pub read_refused : (s : List ℕ) (r : Refusal) → length s ≡ 52 → bits_judged s ≡ Err r → time_read s ≡ Err r
+read_refused s r e h = time_turns s e ∙ ap (λ (a : Answer). in_turn a (nearest_time 400 0 s)) h
+
+-- else the time is that of their number
+pub read_found : (s : List ℕ) (n : ℕ) → length s ≡ 52 → bits_judged s ≡ Done → n ≡ value_of (bits_at s 0 52)
+    → time_read s ≡ nearest_time 400 0 (bits_of 52 n)
+read_found s n e h is =
+    let whole = bits_done s h in
+    read_bits s e whole ∙ sym (ap (nearest_time 400 0) (ap (bits_of 52) (is ∙ (packed s e).0) ∙ unpacked s e (none_not_bit s whole)))

@@ -1,11 +1,11 @@
 -- Bytes into which bits were put: the bits stand there, and the others stay; and what a test has answered and left.
 -- Assumes nothing.
-use Rattle.std.specs.Prelude.{◌≡◌, refl, Bool, true, List, [], ◌∷◌, ◌++◌, ◌⊎◌, ℕ, suc, ◌+◌, ◌≤◌, ◌<◌, length, get_or, take, drop, set}
+use Rattle.std.specs.Prelude.{◌≡◌, refl, Bool, true, false, List, [], ◌∷◌, ◌++◌, ◌⊎◌, ℕ, suc, ◌+◌, ◌≤◌, ◌<◌, length, get_or, take, drop, set}
 use Rattle.std.proofs.Common.{sym, ap, ◌∙◌, append_assoc, inl, inr, ⊎_elim, arith, length-drop, take-append-drop, length-take-le, take_at, take-add, drop_at, get_or-set_other}
 use Rattle.std.proofs.Math.Nat.{min-eq_left}
 use Rattle.std.proofs.lemmas.List.Edits.{sets, sets-eq}
 use Rattle.words.specs.Bits.{bits_of, bits_at, put_answer, put_bytes}
-use Rattle.words.specs.Refusal.{left_if, Answer, Done}
+use Rattle.words.specs.Refusal.{LENGTH, refused_at, left_if, Answer, Done}
 use Rattle.words.specs.Laws.Digits.{length_bits}
 
 sets_part : (l : List ℕ) (at : ℕ) (bits : List ℕ) → at + length bits ≤ length l
@@ -42,6 +42,11 @@ sets_same l at w h =
     ∙ take-append-drop (at + w) l
 
 -- ---- what is answered and left, by a test
+
+-- where it fails, the refusal is answered and the bytes stay
+pub refused_leaves : (fits : Bool) (r : Answer) (l new : List ℕ) → fits ≡ false → r ≡ refused_at LENGTH 0
+    → (r ≡ put_answer fits) × (l ≡ left_if fits new l)
+refused_leaves fits r l new e f = (f ∙ ap put_answer (sym e), ap (λ (t : Bool). left_if t new l) (sym e))
 
 -- where it holds, the new bytes are left
 pub done_leaves : (fits : Bool) (r : Answer) (l out new : List ℕ) → fits ≡ true → r ≡ Done → out ≡ new
