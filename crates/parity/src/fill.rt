@@ -1,7 +1,8 @@
 // The parity symbols of a block.
-ghost use Rattle.std.specs.Prelude.{◌≡◌, ◌∷◌, ◌+◌, ◌%◌, length};
-ghost use Rattle.tables.specs.Coordinates.{row_sum, solved};
+ghost use Rattle.std.specs.Prelude.{◌≡◌, ◌∷◌, ◌++◌, ◌%◌, length};
+ghost use Rattle.tables.specs.Coordinates.{solved};
 ghost use Rattle.tables.specs.Matrix.{matrix_of};
+ghost use Rattle.parity.specs.Equations.{last_sum};
 ghost use Rattle.parity.specs.Fill.{p1_from, p2_from, fill_answer, fill_bytes};
 
 use super::equations::is_block;
@@ -18,19 +19,21 @@ fn put_p2(subframe: Subframe, sums: &[u8], p2: &mut [u8])
     solve(subframe, p2);
 }
 
-// The sum of the last equation with a p1 of 0, which is p1.
+// The sum modulo 2 of the last equation with a p1 of 0, which is p1.
 fn p1_by(subframe: Subframe, symbols: &[u8], p2: &[u8]) -> u8
-    ensures { result ≡ (row_sum (matrix_of subframe).c symbols.now 1 + row_sum (matrix_of subframe).e p2.now 1) % 2 }
+    requires { length symbols.now ≡ (matrix_of subframe).equations }
+    ensures { result ≡ last_sum (matrix_of subframe) (symbols.now ++ 0 ∷ p2.now) % 2 }
 {
     let mut sum = [0u8; 1];
     add(subframe, Submatrix::C, symbols, &mut sum);
+    add(subframe, Submatrix::D, &[0], &mut sum);
     add(subframe, Submatrix::E, p2, &mut sum);
     sum[0] % 2
 }
 
 // Puts p1 and p2 of the data symbols: p1 by the p2 that goes with a p1 of 0, and then the p2 that goes with p1.
 fn put_parity(subframe: Subframe, symbols: &[u8], parity: &mut [u8])
-    requires { length parity.old ≡ (matrix_of subframe).equations }
+    requires { (length symbols.now ≡ (matrix_of subframe).equations) × (length parity.old ≡ (matrix_of subframe).equations) }
     ensures { parity.new ≡ p1_from (matrix_of subframe) symbols.now ∷ p2_from (matrix_of subframe) symbols.now }
 {
     let (p1, p2) = parity.split_at_mut(1);

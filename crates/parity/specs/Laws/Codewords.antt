@@ -24,7 +24,7 @@ use Rattle.parity.specs.Laws.Substitution.{same_solution, solved_right}
 use Rattle.parity.specs.Laws.Parts.{upper_of, lower_of, data_is, parts_meet, upper_met, lower_met, put_together}
 
 -- a p1 of 0 adds nothing
-zero_adds_nothing : (m : List Coordinate) (r : ℕ) → row_sum m (0 ∷ []) r ≡ 0
+pub zero_adds_nothing : (m : List Coordinate) (r : ℕ) → row_sum m (0 ∷ []) r ≡ 0
 zero_adds_nothing m r = sum_zeros m (0 ∷ []) r (zero_at 1)
 
 -- ---- products

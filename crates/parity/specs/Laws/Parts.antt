@@ -31,7 +31,7 @@ module _ (M : Matrix) (s : List ℕ) (p : ℕ) (q : List ℕ) (ls : length s ≡
   unfolding equation_sum
   upper_is r h = rw (lt-ltb r M.equations h, data_is, p1_is, p2_is)
 
-  last_is : last_sum M (s ++ p ∷ q) ≡ lower_of M s (p ∷ []) q
+  pub last_is : last_sum M (s ++ p ∷ q) ≡ lower_of M s (p ∷ []) q
   last_is = rw (data_is, p1_is, p2_is)
 
   lower_is : (r : ℕ) → M.equations ≤ r → equation_sum M (s ++ p ∷ q) r ≡ lower_of M s (p ∷ []) q
