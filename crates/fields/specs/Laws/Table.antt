@@ -1,10 +1,12 @@
 -- The tables of fields: how many fields and bits, and that each row's bits hold its counts; a row of a table.
 -- Assumes nothing.
-use Rattle.std.specs.Prelude.{◌≡◌, refl, Bool, true, false, cond, ◌&&◌, List, [], ◌∷◌, ◌++◌, ℕ, ◌+◌, ◌-◌, ◌^◌, ◌≤◌, ◌<◌, ltb, eqb, length, get_or, drop}
-use Rattle.std.proofs.Common.{ap, add-one, arith, drop-cons}
+use Rattle.std.specs.Prelude.{◌≡◌, refl, Bool, true, false, cond, ◌&&◌, List, [], ◌∷◌, ◌++◌, ℕ, suc, ◌+◌, ◌-◌, ◌^◌, ◌≤◌, ◌<◌, ltb, eqb, length, get_or, drop, replicate}
+use Rattle.std.proofs.Common.{ap, ◌∙◌, add-one, arith, drop-cons}
 use Rattle.std.proofs.Math.Bool.{and-eq-true_iff}
+use Rattle.std.proofs.lemmas.List.{get_or-replicate}
+use Rattle.std.proofs.Math.ListN.{get_or-map}
 use borrow.Author.Tests.{ltb-true, eqb-true}
-use Rattle.fields.specs.Table.{subframe2_rows, page1_rows, page6_rows, fields_in, no_field, bit_count, usable, all_usable}
+use Rattle.fields.specs.Table.{NamedField, at_most, unsigned, subframe2_rows, page1_rows, page6_rows, fields_in, no_field, bit_count, usable, all_usable}
 use Rattle.fields.specs.declared.table.Field.{Field}
 use Rattle.fields.specs.declared.table.Table.{Table}
 use Rattle.fields.specs.declared.table.Table.TheVariants.{Subframe2, Page1, Page6, NoFields}
@@ -55,6 +57,13 @@ bits_most Subframe2 = omega (arith, bits_subframe2)
 bits_most Page1 = omega (arith, bits_page1)
 bits_most Page6 = omega (arith, bits_page6)
 bits_most NoFields = omega (arith, bits_no_fields)
+
+-- every field of page 6 but the first is a byte of text
+pub page6_text : (k : ℕ) → suc k < length (fields_in Page6) → get_or (fields_in Page6) (suc k) no_field ≡ (unsigned 8 "text").field
+unfolding fields_in page6_rows
+page6_text k h =
+    get_or-map (λ (row : NamedField). row.field) (replicate 29 (unsigned 8 "text")) k (at_most 0 0 "")
+    ∙ ap (λ (row : NamedField). row.field) (get_or-replicate 29 k (unsigned 8 "text") (at_most 0 0 "") (omega arith))
 
 -- ---- a row whose bits hold its counts
 
