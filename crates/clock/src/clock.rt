@@ -84,6 +84,8 @@ impl Term {
     }
 
     // The count, in a signed field of its width, whose product with its step this is.
+    // Put into its caller, as `take_back` is: there the width and the step are constants.
+    #[inline(always)]
     fn count_of(self, x: f64) -> Option<i64>
         ensures { result ≡ count_in self.step (signed_field self.width) x }
     {
@@ -108,6 +110,7 @@ impl Term {
     }
 
     // The count whose term this is; refused 6 at the field's first bit if no count in the field's width has it.
+    #[inline(always)]
     fn take_back(self, x: f64) -> Result<i64, Refusal>
         ensures { result ≡ given_by (done_if (is_count (count_in self.step (signed_field self.width) x)) FIELD_2 self.bit)
             (the_count (count_in self.step (signed_field self.width) x)) }
