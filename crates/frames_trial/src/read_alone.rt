@@ -93,13 +93,17 @@ pub(crate) fn turned_data() {
     );
 }
 
-// Two blocks of data symbols with their parity, in order behind the word of time 0.
-fn frame_of(mut two: [u8; 1200], mut three: [u8; 548]) -> Result<[u8; 1800], Refusal> {
-    let mut symbols = [0u8; 1800];
+// Two blocks of data symbols with their parity, in order behind the time's word.
+// Not put into its caller, so that its blocks are off the stack when the frame is read.
+#[inline(never)]
+fn put_blocks(
+    mut two: [u8; 1200],
+    mut three: [u8; 548],
+    symbols: &mut [u8; 1800],
+) -> Result<(), Refusal> {
     fill_parity(Subframe::Two, &mut two)?;
     fill_parity(Subframe::Three, &mut three)?;
-    interleave(&two, &three, &mut symbols[52..])?;
-    Ok(symbols)
+    interleave(&two, &three, &mut symbols[52..])
 }
 
 // The block with the check bits behind its other data symbols.
@@ -134,7 +138,8 @@ fn page1() -> [u8; 548] {
 
 // Where there is no frame, the zeros in its place are read, and so nothing is refused.
 fn is_refused(part: Part, two: [u8; 1200], three: [u8; 548], number: u8, place: usize) {
-    let symbols = frame_of(two, three).unwrap_or([0; 1800]);
+    let mut symbols = [0; 1800];
+    let _ = put_blocks(two, three, &mut symbols);
     only(b"  read refuses it", part, &symbols, number, place);
 }
 

@@ -77,6 +77,10 @@ frame_made time two three counts page e f =
 
 -- ---- a frame
 
+-- the time alone is that of what is lent, where it is judged as a frame
+pub time_done : (f : List ℕ) → frame_judged f Done ≡ Done → time_read (time_in f) ≡ time_alone f
+time_done f e = sym (ap (λ (a : Answer). in_turn a (time_read (time_in f))) e)
+
 module _ (f : List ℕ) (t : Time) (found : time_alone f ≡ Ok t) where
   -- where the time alone is read, 1800 symbols are lent, and it is their time
   pub time_lent : (length f ≡ FRAME) × IsBits f × (time_read (time_in f) ≡ Ok t)
@@ -85,7 +89,7 @@ module _ (f : List ℕ) (t : Time) (found : time_alone f ≡ Ok t) where
       go : Answered (frame_judged f Done) → (length f ≡ FRAME) × IsBits f × (time_read (time_in f) ≡ Ok t)
       go (done e) =
           let lent = lent_done f Done e in
-          (lent.0, lent.1, sym (ap (λ (a : Answer). in_turn a (time_read (time_in f))) e) ∙ found)
+          (lent.0, lent.1, time_done f e ∙ found)
       go (refused n p e) =
           absurd (not_done n p (ap answer_of (sym (ap (λ (a : Answer). in_turn a (time_read (time_in f))) e) ∙ found)))
 
