@@ -25,6 +25,7 @@ fn judge_named(k: usize, text: &[u8], found: &Found) -> Result<(usize, i64), Rul
 }
 
 // The same of a line without its end.
+#[tactic(auto, using(crate::specs::Laws::List::listed_many), unfolding(crate::specs::Laws::Steps::line_read, crate::specs::Laws::Steps::named_line))]
 pub(crate) fn judge_line(line: &[u8], found: &Found) -> Result<(usize, i64), Rule>
     ensures { result ≡ line_read line.now found.now }
 {

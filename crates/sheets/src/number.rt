@@ -1,10 +1,12 @@
-// Numbers of a sheet, read.
-ghost use Rattle.std.specs.Prelude.{◌≡◌, cond, ◌+◌, ◌-◌, ◌*◌, ◌≤◌, ◌<◌, min, Some, None};
+// Numbers of a sheet, read and written.
+ghost use Rattle.std.specs.Prelude.{◌≡◌, cond, List, ℕ, ◌+◌, ◌-◌, ◌*◌, ◌≤◌, ◌<◌, min, drop, Some, None};
 ghost use Rattle.fields.specs.Counts.{in_range};
+ghost use Rattle.sheets.specs.Number.{decimal};
 ghost use Rattle.sheets.specs.Laws.Steps.{digits_read, plain_read, negative_read, positive_read, number_read};
 
 use fields::counts::in_range;
 use fields::table::Field;
+use std::marker::Model;
 
 // From here on a number is out of every field's range, and is told apart no further.
 const BEYOND: u64 = 1099511627776;
@@ -80,5 +82,47 @@ pub(crate) fn read_number(field: Field, text: &[u8]) -> Option<i64>
     match text {
         [b'-', digits @ ..] => read_negative(field, digits),
         _ => read_positive(field, text),
+    }
+}
+
+// ---- writing
+
+// The digits of a number of 64 bits, which has at most 20, behind the bytes that it has no digit for.
+#[derive(Drop)]
+pub(crate) struct Digits {
+    bytes: [u8; 20],
+    from: usize,
+}
+
+// Clauses see the digits.
+impl Model for Digits {
+    ghost Value = { List ℕ };
+
+    ghost view = { λ digits. drop digits.from digits.bytes };
+
+    ghost invariant = { λ digits. digits.from ≤ 20 };
+}
+
+impl Digits {
+    // A `while`: how many digits there are shows only as they are taken off, the last one first.
+    pub(crate) fn of(number: u64) -> Digits
+        ensures { result ≡ decimal number }
+    {
+        let mut bytes = [0u8; 20];
+        let mut from = 19;
+        let mut rest = number;
+        while 10 <= rest {
+            bytes[from] = b'0' + (rest % 10) as u8;
+            from -= 1;
+            rest /= 10;
+        }
+        bytes[from] = b'0' + rest as u8;
+        Digits { bytes, from }
+    }
+
+    pub(crate) fn as_slice(&self) -> &[u8]
+        ensures { result.now ≡ self.now }
+    {
+        &self.bytes[self.from..]
     }
 }

@@ -5,6 +5,7 @@ ghost use Rattle.sheets.specs.Number.{decimal, numeral};
 ghost use Rattle.sheets.specs.Laws.Steps.{first_at};
 ghost use Rattle.sheets.specs.declared.text.TheConstants.{SHEET_BYTES};
 
+use super::number::Digits;
 use std::marker::Model;
 
 // Where the first byte `b` stands, if there is one.
@@ -16,6 +17,7 @@ pub(crate) fn first(bytes: &[u8], b: u8) -> Option<usize>
 
 // How many bytes stand before the first byte `b`: all, where there is none.
 // Not an Option: its clause, by `index_of`, promises the number of bytes.
+#[tactic(auto, using(crate::specs::Laws::Text::index_le))]
 pub fn find(bytes: &[u8], b: u8) -> usize
     ensures { result ≡ index_of b bytes.now }
 {
@@ -82,15 +84,17 @@ impl Text {
         self.size = end;
     }
 
-    // The digits of a number.
-    pub(crate) fn put_decimal(&mut self, number: u64)
+    // The digits of a number; a single one is put as it is.
+    #[tactic(auto, using(crate::specs::Laws::Numerals::decimal_small))]
+    fn put_decimal(&mut self, number: u64)
         requires { length self.old + length (decimal number) ≤ SHEET_BYTES }
         ensures { self.new ≡ self.old ++ decimal number }
     {
-        if 10 <= number {
-            self.put_decimal(number / 10);
+        if number < 10 {
+            self.push(b'0' + number as u8);
+        } else {
+            self.put(Digits::of(number).as_slice());
         }
-        self.push(b'0' + (number % 10) as u8);
     }
 
     // A number, with its sign where it is below zero.

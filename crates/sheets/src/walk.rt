@@ -14,6 +14,7 @@ pub struct Walk<'a> {
 
 // A step from a place of the bytes: none at place 0, where the walk is finished; else what is read of the sheet that ends there, toi's
 // number first, or its refusal; a place past the end is refused 1 at 0.
+#[tactic(auto, unfolding(crate::specs::Walk::step_at))]
 pub(crate) fn step_at(bytes: &[u8], place: usize) -> Option<Result<Sheet, Refusal>>
     ensures { result ≡ step_at bytes.now place }
 {

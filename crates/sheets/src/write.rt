@@ -7,6 +7,7 @@ ghost use Rattle.sheets.specs.Sheet.{line_text, line_texts};
 ghost use Rattle.sheets.specs.Write.{numbers_answer, sheet_written, written_bytes, text_written, text_bytes};
 
 use super::list::{LISTED, NAMES, listed_field};
+use super::number::Digits;
 use super::text::{SHEET_BYTES, Text};
 use super::trailer::put_trailer;
 use fields::counts::in_range;
@@ -18,6 +19,7 @@ use words::refusal::{Refusal, Rule};
 // Writes a text from the first lent byte on, and gives its length; the bytes behind it stay. Refused 16 at 0 where the text has more bytes
 // than are lent.
 // This and `write_decimal` are public and write into lent bytes: there is no heap for a `String`.
+#[tactic(auto, unfolding(crate::specs::Write::text_written, crate::specs::Write::text_bytes))]
 pub fn write_text(text: &[u8], out: &mut [u8]) -> Result<usize, Refusal>
     ensures { (result ≡ text_written text.now out.old) × (out.new ≡ text_bytes text.now out.old) }
 {
@@ -32,9 +34,7 @@ pub fn write_text(text: &[u8], out: &mut [u8]) -> Result<usize, Refusal>
 pub fn write_decimal(number: u64, out: &mut [u8]) -> Result<usize, Refusal>
     ensures { (result ≡ text_written (decimal number) out.old) × (out.new ≡ text_bytes (decimal number) out.old) }
 {
-    let mut digits = Text::new();
-    digits.put_decimal(number);
-    write_text(digits.as_slice(), out)
+    write_text(Digits::of(number).as_slice(), out)
 }
 
 // ---- a sheet

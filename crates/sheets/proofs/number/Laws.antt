@@ -2,21 +2,23 @@
 -- Assumes nothing.
 use Rattle.std.specs.Prelude.{Option, Some, None, unsigned_abs}
 use mathlib.Core.Path.{◌≡◌, refl, sym, ap, ap₂, ◌∙◌}
-use mathlib.Core.Bool.{Bool, true, false, cond, not, ◌&&◌, and-false, or-true}
+use mathlib.Core.Bool.{Bool, true, false, cond, not, ◌&&◌, ◌||◌, and-false, or-true}
 use mathlib.Core.List.{List, [], ◌∷◌, ◌++◌, append_assoc}
-use Prim.Native.Nat.{ℕ, suc, ◌+◌, ◌-◌, ◌*◌, ◌/◌, ◌%◌, ◌≤◌, ◌<◌, min}
+use Prim.Native.Nat.{ℕ, zero, suc, ◌+◌, ◌-◌, ◌*◌, ◌/◌, ◌%◌, ◌≤◌, ◌<◌, min}
 use native.Mathlib.Decide.{dec_le, dec_lt}
 use native.Mathlib.Numerals.{add-one}
 use native.Mathlib.Omega.{arith}
 use lib.Dec.{eqb, leb}
-use lib.IntN.{ℤ, pos, negsuc}
-use lib.ListN.{length, get_or, take, drop, length-drop, length-append, drop_of_length-le}
+use lib.IntN.{ℤ, pos, negsuc, neg_ℤ}
+use lib.ListN.{length, get_or, take, drop, set, length-drop, length-append, drop_of_length-le}
 use lib.Seq.{drop-cons, take_all}
-use lib.Signed.{lt_z}
+use lib.Signed.{mag, non_neg, lt_z}
 use borrow.Author.Tests.{eq-eqb, ne_eqb, le-leb, lt-leb, lt-ltb, le-ltb, ltb-true}
+use Rattle.fields.specs.Counts.{in_range}
 use Rattle.fields.specs.declared.table.Field.{Field}
-use Rattle.sheets.specs.Number.{MINUS, is_digit, all_digits, decimal_from, is_plain, is_number, value_in, decimal, numeral}
-use Rattle.sheets.specs.Laws.Steps.{BEYOND, negative_read, positive_read, number_read}
+use Rattle.sheets.specs.Number.{MINUS, is_digit, all_digits, decimal_from, decimal_in, is_plain, is_number, value_in, decimal, numeral}
+use Rattle.sheets.specs.Laws.Steps.{BEYOND, digits_are, plain_read, negative_read, positive_read, number_read}
+use Rattle.std.proofs.lemmas.List.{drop-set}
 use Rattle.sheets.specs.Laws.Numerals.{decimal_least, decimal_small, decimal_large}
 
 -- ---- digits, from a place on
@@ -84,6 +86,43 @@ module _ (l : List ℕ) where
       rw (lt-ltb 0 (length l) (omega arith), eq-eqb (length l) 1 n)
       (ap (λ (t : Bool). t && all_digits l) (or-true (not (eqb (get_or l 0 0) 48))))
 
+-- ---- a number in a field's range
+
+-- a number with a sign or without, in range
+abbrev pub within_by : Field → ℤ → Option ℤ
+within_by f z = cond (in_range f z) (Some z) None
+
+range_past : (f : Field) (z : ℤ) → f.most < mag z → within_by f z ≡ None
+range_past f z h =
+    rw (lt-leb (mag z) f.most h, and-false (leb f.least (mag z)), and-false (f.signed || non_neg z)) refl
+
+-- from BEYOND on every number is out of range, so that cut at BEYOND it is judged as it is
+within_cut : (f : Field) (sign : ℕ → ℤ) → ((n : ℕ) → BEYOND ≤ n → f.most < mag (sign n))
+    → (n : ℕ) → within_by f (sign (min n BEYOND)) ≡ within_by f (sign n)
+within_cut f sign beyond n = go (dec_le n BEYOND)
+  where
+    go : Dec (n ≤ BEYOND) → within_by f (sign (min n BEYOND)) ≡ within_by f (sign n)
+    go (yes h) = let e : min n BEYOND ≡ n = omega arith in ap (λ (k : ℕ). within_by f (sign k)) e
+    go (no h) =
+        range_past f (sign (min n BEYOND)) (beyond (min n BEYOND) (omega arith)) ∙ sym (range_past f (sign n) (beyond n (omega arith)))
+
+-- the size of a number behind a `-`
+minus_size : (m n : ℕ) → m + 1 < n → m < mag (neg_ℤ (pos n))
+minus_size m zero h = absurd (omega arith)
+minus_size m (suc n) h = omega arith
+
+module _ (f : Field) (l : List ℕ) where
+  pub positive_some : f.most + 1 < BEYOND → (n : ℕ) → plain_read l ≡ Some n → within_by f (pos n) ≡ positive_read f l
+  positive_some h n e =
+      let are = digits_are (is_plain l) l n e in
+      rw (are.0, are.1) (within_cut f pos (λ k g. omega arith) (decimal_in l))
+
+  pub negative_some : f.most + 1 < BEYOND → (n : ℕ) → plain_read l ≡ Some n → (n ≡ 0 → ⊥) → within_by f (neg_ℤ (pos n)) ≡ negative_read f l
+  negative_some h n e z =
+      let are = digits_are (is_plain l) l n e in
+      rw (are.0, ne_eqb (decimal_in l) 0 (λ q. z (omega (arith, are.1))), are.1)
+      (within_cut f (λ (k : ℕ). neg_ℤ (pos k)) (λ k g. minus_size f.most k (omega arith)) (decimal_in l))
+
 -- ---- a number, by its first byte
 
 module _ (f : Field) (l : List ℕ) where
@@ -98,7 +137,7 @@ module _ (f : Field) (l : List ℕ) where
   unfolding is_number value_in
   number_positive e = rw (ne_eqb (get_or l 0 0) MINUS e)
 
--- ---- the digits, written
+-- ---- the digits, written from the last one on
 
 pub some_digit : (n : ℕ) → 1 ≤ length (decimal n)
 some_digit n = go (dec_lt n 10)
@@ -107,18 +146,18 @@ some_digit n = go (dec_lt n 10)
     go (yes h) = omega (arith, ap length (decimal_small n h))
     go (no h) = omega (arith, ap length (decimal_large n (omega arith)), length-append (decimal (n / 10)) ((48 + n % 10) ∷ []))
 
--- a digit behind those of a tenth, and the only one
-module _ (n : ℕ) (old left : List ℕ) where
-  pub digit_behind : 10 ≤ n → left ≡ old ++ decimal (n / 10) → left ++ (48 + n % 10) ∷ [] ≡ old ++ decimal n
-  digit_behind m e =
-      ap (λ (l : List ℕ). l ++ (48 + n % 10) ∷ []) e
-      ∙ append_assoc old (decimal (n / 10)) ((48 + n % 10) ∷ [])
-      ∙ ap (λ (l : List ℕ). old ++ l) (sym (decimal_large n m))
+module _ (n from : ℕ) (bytes digits : List ℕ) (h : from < length bytes) (e : decimal n ++ drop (from + 1) bytes ≡ digits) where
+  -- the last digit of what is left
+  pub digit_put : 10 ≤ n → decimal (n / 10) ++ drop from (set bytes from (48 + n % 10)) ≡ digits
+  digit_put m =
+      ap (λ (l : List ℕ). decimal (n / 10) ++ l) (drop-set bytes from (48 + n % 10) h)
+      ∙ sym (append_assoc (decimal (n / 10)) ((48 + n % 10) ∷ []) (drop (from + 1) bytes))
+      ∙ ap (λ (l : List ℕ). l ++ drop (from + 1) bytes) (sym (decimal_large n m))
+      ∙ e
 
-  pub digit_alone : n < 10 → left ≡ old → left ++ (48 + n % 10) ∷ [] ≡ old ++ decimal n
-  digit_alone m e =
-      let same : n % 10 ≡ n = omega arith in
-      ap₂ (λ (l : List ℕ) (d : ℕ). l ++ (48 + d) ∷ []) e same ∙ ap (λ (l : List ℕ). old ++ l) (sym (decimal_small n m))
+  -- the only one
+  pub digits_put : n < 10 → drop from (set bytes from (48 + n)) ≡ digits
+  digits_put m = drop-set bytes from (48 + n) h ∙ ap (λ (l : List ℕ). l ++ drop (from + 1) bytes) (sym (decimal_small n m)) ∙ e
 
 -- ---- a number, written by its sign
 

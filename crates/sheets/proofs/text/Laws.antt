@@ -1,13 +1,11 @@
 -- The first byte of a kind, as `position` finds it, and the same bytes, as `==` and `starts_with` compare them.
 -- Assumes nothing.
-use Rattle.std.proofs.Common.{◌≡◌, refl, ℕ, ◌≤◌, List, [], ◌∷◌, eqb, ltb, length, ap, cond, ◌&&◌, take, ap₂, arith}
+use Rattle.std.proofs.Common.{◌≡◌, refl, ℕ, List, [], ◌∷◌, eqb, ltb, length, ap, cond, ◌&&◌, take, ap₂, arith}
 use Rattle.std.specs.List.{position, position_or_len, starts_with}
-use Rattle.std.specs.Option.{unwrap_or}
 use Rattle.std.specs.declared.option.Option.TheVariants.{None, Some}
 use Rattle.std.proofs.lemmas.List.Recursion.{is_position_or_len}
 use Rattle.std.proofs.lemmas.Bool.Decides.{nat_tests}
 use Rattle.sheets.specs.Text.{index_of, same_bytes}
-use Rattle.sheets.specs.Laws.Text.{index_le}
 use Rattle.sheets.specs.Laws.Steps.{first_at}
 use lib.Pointwise.{pointwise}
 
@@ -17,13 +15,6 @@ index_is b l = is_position_or_len (index_of b) (λ x. eqb x b) refl (λ x xs. ap
 
 pub first_position : (b : ℕ) (l : List ℕ) → first_at b l ≡ position (λ x. eqb x b) l
 first_position b l = ap (λ (n : ℕ). cond (ltb n (length l)) (Some n) None) (index_is b l)
-
--- how many bytes stand before it
-pub first_or : (b : ℕ) (l : List ℕ) → unwrap_or (first_at b l) (length l) ≡ index_of b l
-first_or b l = by_place (index_of b l) (length l) (index_le b l)
-  where
-    by_place : (n m : ℕ) → n ≤ m → unwrap_or (cond (ltb n m) (Some n) None) m ≡ n
-    by_place n m h = grind (arith, nat_tests)
 
 flipped : (x y : ℕ) → eqb x y ≡ eqb y x
 flipped x y = grind (arith, nat_tests)

@@ -8,12 +8,11 @@ use mathlib.Core.List.{List, [], ◌∷◌, ◌++◌, append_assoc}
 use Prim.Native.Nat.{ℕ, ◌+◌, ◌-◌, ◌≤◌, ◌<◌}
 use native.Mathlib.Numerals.{add-one}
 use native.Mathlib.Omega.{arith}
-use lib.Dec.{leb}
 use lib.IntN.{ℤ, pos}
 use lib.ListN.{length, get_or, take, drop, length-drop, drop_of_length-le}
 use lib.Seq.{drop-cons, take_all}
-use borrow.Author.Tests.{eq-eqb, ne_eqb, le-leb, lt-leb}
-use Rattle.words.specs.Refusal.{LENGTH, TIME, ROOM, refused_at, done_if, in_turn, left_by, Answer, Done, given_by}
+use borrow.Author.Tests.{eq-eqb, ne_eqb}
+use Rattle.words.specs.Refusal.{LENGTH, TIME, refused_at, done_if, in_turn, left_by, Answer, Done, given_by}
 use Rattle.fields.specs.Table.{no_field}
 use Rattle.fields.specs.Counts.{in_range}
 use Rattle.fields.specs.Subframe2.{COUNTS_2, counts_answer, counts_judged}
@@ -24,7 +23,6 @@ use Rattle.sheets.specs.Write.{sheet_text, numbers_answer, room_answer, write_an
 use Rattle.sheets.specs.Laws.List.{listed_many}
 use Rattle.sheets.proofs.list.Laws.{names_of}
 use Rattle.words.specs.declared.refusal.Refusal.{Refusal}
-use Rattle.std.specs.Prelude.{Ok}
 
 -- ---- a line with its end
 
@@ -87,27 +85,6 @@ module _ (zs : List ℤ) where
       ∙ ap (λ (t : Bool). in_turn (done_if t LENGTH 0) (counts_answer (drop 1 zs)))
       (eq-eqb (length (drop 1 zs)) COUNTS_2 (omega (arith, length-drop 1 zs)))
       ∙ by_time true e
-
--- ---- what writing a text gives
-
-module _ (text out : List ℕ) where
-  by_room : (t : Bool) (r : Result ℕ Refusal) (left : List ℕ) → leb (length text) (length out) ≡ t → r ≡ given_by (done_if t ROOM 0) (length text)
-      → left ≡ left_by (done_if t ROOM 0) (put_first text out) out → (r ≡ text_written text out) × (left ≡ text_bytes text out)
-  unfolding text_written text_bytes
-  by_room t r left e f g = (
-    f ∙ ap (λ (x : Bool). given_by (done_if x ROOM 0) (length text)) (sym e),
-    g ∙ ap (λ (x : Bool). left_by (done_if x ROOM 0) (put_first text out) out) (sym e),
-  )
-
-  -- fewer bytes lent than the text has
-  pub no_room : (r : Result ℕ Refusal) → length out < length text → r ≡ refused_at ROOM 0
-      → (r ≡ text_written text out) × (out ≡ text_bytes text out)
-  no_room r h e = by_room false r out (lt-leb (length text) (length out) h) e refl
-
-  -- enough bytes
-  pub room : (left : List ℕ) → length text ≤ length out → left ≡ put_first text out
-      → (◌≡◌ {A = Result ℕ Refusal} (Ok (length text)) (text_written text out)) × (left ≡ text_bytes text out)
-  room left h e = by_room true (Ok (length text)) left (le-leb (length text) (length out) h) refl e
 
 -- ---- what writing a sheet gives
 

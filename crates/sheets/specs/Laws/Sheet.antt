@@ -1,6 +1,7 @@
 -- The sheet at the end of bytes: whether there is one, where it begins, and what is read of it.
 -- Assumes nothing.
 use Rattle.std.specs.Prelude.{◌≡◌, Bool, List, ℕ, ◌-◌, ◌≤◌, ℤ, Err, Ok}
+use Rattle.std.proofs.Math.Path.{refl}
 use Rattle.std.proofs.Math.Bool.{true, false, cond}
 use native.Mathlib.Omega.{arith}
 use Rattle.std.proofs.Math.ListN.{length}
@@ -8,12 +9,29 @@ use Rattle.words.specs.Refusal.{TRAILER, Answer, refused_at}
 use Rattle.sheets.specs.Trailer.{trailer_place, trailer_count, has_trailer, start_of, lines_bytes}
 use Rattle.sheets.specs.Lines.{lines_in, numbers_in, body_answer}
 use Rattle.sheets.specs.Sheet.{sheet_answer, sheet_by, sheet_read, sheet_before}
+use Rattle.sheets.specs.Laws.Trailer.{start_before}
 
 by_within : (a : Answer) (zs : List ℤ) (before n : ℕ) → before ≤ n → sheet_before (sheet_by a zs before) ≤ n
 by_within (Ok _) zs before n h = h
 by_within (Err r) zs before n h = omega arith
 
 module _ (s : List ℕ) where
+  -- bytes end with no trailer where a sheet would begin at their end
+  pub trailer_none : start_of s ≡ length s → has_trailer s ≡ false
+  trailer_none h = go (has_trailer s) refl
+    where
+      go : (t : Bool) → has_trailer s ≡ t → t ≡ false
+      go true e = absurd (omega (arith, start_before s e))
+      go false e = refl
+
+  pub trailer_there : (start_of s ≡ length s → ⊥) → has_trailer s ≡ true
+  unfolding start_of
+  trailer_there h = go (has_trailer s) h
+    where
+      go : (t : Bool) → (cond t (trailer_place s - trailer_count s) (length s) ≡ length s → ⊥) → t ≡ true
+      go true k = refl
+      go false k = absurd (k refl)
+
   pub start_within : start_of s ≤ length s
   unfolding start_of
   start_within = go (has_trailer s)

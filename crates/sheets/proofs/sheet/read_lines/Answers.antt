@@ -1,12 +1,12 @@
 -- `sheets::sheet::read_lines` meets its contract. The loop keeps how far reading has come. Assumes nothing.
 use Rattle.std.proofs.Common.{◌≡◌, sym, ap, ◌∙◌, length, length-drop, arith, Err, rules, tests}
+use lib.Seq.{take_all}
 use mir.Facts.{to_z-of_z}
 use mir.Syntax.{w64}
 use Rattle.std.proofs.lemmas.Fn.{always_returns_same}
 use Rattle.std.proofs.lemmas.Grind.{common_steps}
 use Rattle.std.proofs.lemmas.Option.{MatchOption-at_none, MatchOption-at_some}
 use Rattle.words.specs.Refusal.{Answer, refusal_at, number}
-use Rattle.std.specs.Slice.Iter.{split_inclusive_rest}
 use Rattle.sheets.specs.Lines.{lines_in, numbers_in}
 use Rattle.sheets.specs.Sheet.{sheet_by}
 use Rattle.sheets.specs.Laws.List.{listed_many}
@@ -16,7 +16,7 @@ use Rattle.sheets.proofs.sheet.read_lines.Goals as goal
 
 pub loop-ended-init : goal.loop-ended-init
 loop-ended-init c =
-    (nothing_read c.args.lines.now, omega arith, ap (λ s. split_inclusive_rest s) c.into_iter-ended-iterator.ensures.into_iter_gives ∙ c.split_inclusive-ended-items.ensures.rest)
+    (nothing_read c.args.lines.now, omega arith, grind (arith, common_steps, take_all))
 
 pub returns-in_err-line : goal.returns-in_err-line
 returns-in_err-line c =
