@@ -1,7 +1,7 @@
 // The bench program: a page line and a sheet in, a frame out.
 ghost use Rattle.std.specs.Prelude.{◌≡◌, ◌≤◌, ◌<◌, length, MatchOption};
 ghost use Rattle.words.specs.Bits.{IsBits};
-ghost use Rattle.words.specs.Refusal.{given_by};
+ghost use Rattle.words.specs.Refusal.{left_by};
 ghost use Rattle.fields.specs.Counts.{AllInRange};
 ghost use Rattle.sheets.specs.List.{sheet_fields};
 ghost use Rattle.sheets.specs.Text.{LINE_END, index_of};
@@ -33,24 +33,33 @@ fn split_line(input: &[u8]) -> Option<(&[u8], &[u8])>
     Some((line, behind))
 }
 
-// The frame of a sheet's numbers, toi's first, and of a page.
+// The frame of a sheet's numbers, toi's first, and of a page. Here and below the frame is lent and not handed back, so that it lies once on
+// the stack; where it is refused it stays.
 // The time by `as`: the clause says that it fits, and `try_from` would answer what cannot be. The bits are those of a page line, judged once.
-fn build_numbers(numbers: &[i64; 34], page: &[u8; PAGE_BITS]) -> Result<[u8; FRAME], Refusal>
+fn build_numbers(
+    numbers: &[i64; 34],
+    page: &[u8; PAGE_BITS],
+    frame: &mut [u8; FRAME],
+) -> Result<(), Refusal>
     requires { AllInRange sheet_fields numbers.now × IsBits page.now }
-    ensures { result
-        ≡ given_by (contents_answer (carried_contents numbers.now page.now)) (frame_of (carried_contents numbers.now page.now)) }
+    ensures { (result ≡ contents_answer (carried_contents numbers.now page.now))
+        × (frame.new ≡ left_by (contents_answer (carried_contents numbers.now page.now))
+        (frame_of (carried_contents numbers.now page.now)) frame.old) }
 {
     let toi = numbers[0] as u16;
-    let mut frame = [0u8; FRAME];
-    build(toi, &numbers[1..], page, &mut frame)?;
-    Ok(frame)
+    build(toi, &numbers[1..], page, frame)
 }
 
 // The frame of the sheet behind the page line. Refused 10 at 0 where it does not begin right there, then as the sheet, then as the frame.
 // The bits are those of the page line, judged once.
-fn build_behind(page: &[u8; PAGE_BITS], bytes: &[u8]) -> Result<[u8; FRAME], Refusal>
+fn build_behind(
+    page: &[u8; PAGE_BITS],
+    bytes: &[u8],
+    frame: &mut [u8; FRAME],
+) -> Result<(), Refusal>
     requires { IsBits page.now }
-    ensures { result ≡ given_by (behind_answer page.now bytes.now) (frame_of (sheet_contents page.now bytes.now)) }
+    ensures { (result ≡ behind_answer page.now bytes.now)
+        × (frame.new ≡ left_by (behind_answer page.now bytes.now) (frame_of (sheet_contents page.now bytes.now)) frame.old) }
 {
     let start = sheet_start(bytes);
     let elsewhere = start != 0;
@@ -58,13 +67,14 @@ fn build_behind(page: &[u8; PAGE_BITS], bytes: &[u8]) -> Result<[u8; FRAME], Ref
         return Err(Rule::Trailer.at(0));
     }
     let sheet = read_sheet(bytes)?;
-    build_numbers(&sheet.numbers, page)
+    build_numbers(&sheet.numbers, page, frame)
 }
 
 // The frame of the input, judged in turn: over 8192 bytes, the page line, the sheet, the frame. The page line is refused 1 at 0 where it
 // has no newline or another length, 2 at the first character that is neither `0` nor `1`.
-fn build_input(input: &[u8]) -> Result<[u8; FRAME], Refusal>
-    ensures { result ≡ given_by (input_answer input.now) (frame_of (input_contents input.now)) }
+fn build_input(input: &[u8], frame: &mut [u8; FRAME]) -> Result<(), Refusal>
+    ensures { (result ≡ input_answer input.now)
+        × (frame.new ≡ left_by (input_answer input.now) (frame_of (input_contents input.now)) frame.old) }
 {
     if MOST_INPUT < input.len() {
         return Err(Rule::Length.at(0));
@@ -73,7 +83,7 @@ fn build_input(input: &[u8]) -> Result<[u8; FRAME], Refusal>
         return Err(Rule::Length.at(0));
     };
     let page = take_symbols(line)?;
-    build_behind(&page, behind)
+    build_behind(&page, behind, frame)
 }
 
 // The symbols of a frame, as characters, and a newline.
@@ -91,8 +101,9 @@ fn frame_output(frame: &[u8; FRAME]) -> Output
 pub fn print_frame(input: &[u8]) -> Output
     ensures { (result ≡ output_of (printed_frame input.now)) × (result.size ≤ OUTPUT_BYTES) }
 {
-    match build_input(input) {
-        Ok(frame) => frame_output(&frame),
+    let mut frame = [0u8; FRAME];
+    match build_input(input, &mut frame) {
+        Ok(()) => frame_output(&frame),
         Err(refusal) => refusal_output(refusal),
     }
 }

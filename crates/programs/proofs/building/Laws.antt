@@ -15,9 +15,9 @@ use lib.IntN.{nat_abs, negsuc}
 use mir.Syntax.{w16, w64}
 use mir.Val.{to_z, of_z, Fits}
 use Rattle.std.proofs.lemmas.Int.{to_z_pos}
-use borrow.Author.Tests.{lt-ltb, le-ltb, le-leb, lt-leb, eq-eqb}
+use borrow.Author.Tests.{lt-ltb, le-ltb, le-leb, lt-leb, eq-eqb, ne_eqb}
 use Rattle.words.specs.Bits.{IsBits, first_not_bit}
-use Rattle.words.specs.Refusal.{LENGTH, refused_at, given_by, Answer, Done, answer_of}
+use Rattle.words.specs.Refusal.{LENGTH, TRAILER, refused_at, given_by, left_by, Answer, Done, answer_of}
 use Rattle.words.specs.Time.{LAST_TOI}
 use Rattle.words.specs.Laws.Digits.{bits_none}
 use Rattle.words.specs.Laws.Turns.{given_answer, given_ok, judged_on}
@@ -25,7 +25,7 @@ use Rattle.words.specs.declared.refusal.Refusal.{Refusal}
 use Rattle.fields.specs.Subframe2.{COUNTS_2}
 use Rattle.fields.specs.Pages.{PAGE_BITS}
 use Rattle.frames.specs.Frame.{Contents, FRAME, frame_of}
-use Rattle.frames.specs.Build.{contents_of, build_lengths, contents_answer, build_answer, build_bytes}
+use Rattle.frames.specs.Build.{contents_of, build_lengths, contents_answer, build_answer}
 use Rattle.frames.specs.Built.{built_right}
 use Rattle.sheets.specs.Text.{LINE_END, index_of}
 use Rattle.fields.specs.Counts.{AllInRange}
@@ -49,6 +49,10 @@ use Rattle.sheets.specs.declared.sheet.Sheet.{Sheet}
 -- what is refused has that answer
 refused_is : {A : Type 0} (a : Answer) (x : A) (r : Refusal) → given_by a x ≡ Err r → a ≡ Err r
 refused_is a x r e = sym (given_answer a x) ∙ ap answer_of e
+
+-- what is answered, and what is left in lent bytes by it
+abbrev pub Leaves : Answer → List ℕ → List ℕ → Answer → List ℕ → Type 0
+Leaves a new old x out = (x ≡ a) × (out ≡ left_by a new old)
 
 -- ---- the page line
 
@@ -86,29 +90,18 @@ module _ (zs : List ℤ) (range : AllInRange sheet_fields zs) where
 
   -- and all of them with a page
   module _ (page f : List ℕ) (long : length page ≡ PAGE_BITS) (bits : IsBits page) (whole : length f ≡ FRAME) where
-    -- their frame
-    abbrev pub carried_built : Result (List ℕ) Refusal
-    carried_built = given_by (contents_answer (carried_contents zs page)) (frame_of (carried_contents zs page))
-
     carried_on : build_answer (carried_contents zs page) f ≡ contents_answer (carried_contents zs page)
     carried_on = build_on (carried_contents zs page) f (omega (arith, (range_good zs range).0, length-drop 1 zs)) long bits whole
 
-    -- as it is built of the time and the counts
-    module _ (toi : ℕ) (counts : List ℤ) (time : toi ≡ nat_abs (to_z w64 (of_z w64 (get_or zs 0 (pos 0))))) (others : counts ≡ drop 1 zs) where
-      same : contents_of toi counts page ≡ carried_contents zs page
-      same = ap₂ (λ (t : ℕ) (l : List ℤ). contents_of t l page) (time ∙ ap nat_abs first_cast) others
-
-      pub numbers_refused : (r : Refusal) → build_answer (contents_of toi counts page) f ≡ Err r → Err r ≡ carried_built
-      numbers_refused r e =
-          let refused : contents_answer (carried_contents zs page) ≡ Err r =
-          sym carried_on ∙ ap (λ (c : Contents). build_answer c f) (sym same) ∙ e in
-          rw refused refl
-
-      pub numbers_built : build_answer (contents_of toi counts page) f ≡ Done → (out : List ℕ) → out ≡ build_bytes (contents_of toi counts page) f
-          → Ok out ≡ carried_built
-      numbers_built e out written =
-          let done : build_answer (carried_contents zs page) f ≡ Done = ap (λ (c : Contents). build_answer c f) (sym same) ∙ e in
-          rw (written ∙ ap (λ (c : Contents). build_bytes c f) same, done, sym carried_on ∙ done) refl
+    -- their frame, as it is built of the time and the counts
+    pub numbers_built : (toi : ℕ) (counts : List ℤ) (x : Answer) (out : List ℕ)
+        → toi ≡ nat_abs (to_z w64 (of_z w64 (get_or zs 0 (pos 0)))) → counts ≡ drop 1 zs
+        → Leaves (build_answer (contents_of toi counts page) f) (frame_of (contents_of toi counts page)) f x out
+        → Leaves (contents_answer (carried_contents zs page)) (frame_of (carried_contents zs page)) f x out
+    numbers_built toi counts x out time others h =
+        subst (λ (a : Answer). Leaves a (frame_of (carried_contents zs page)) f x out) carried_on
+        (subst (λ (c : Contents). Leaves (build_answer c f) (frame_of c) f x out)
+        (ap₂ (λ (t : ℕ) (l : List ℤ). contents_of t l page) (time ∙ ap nat_abs first_cast) others) h)
 
 -- ---- the sheet behind the page line
 
@@ -116,62 +109,67 @@ module _ (zs : List ℤ) (range : AllInRange sheet_fields zs) where
 pub read_range : (bytes : List ℕ) (sheet : Sheet) → sheet_read bytes ≡ Ok sheet → AllInRange sheet_fields sheet.numbers
 read_range bytes sheet e = ((read_exactly bytes sheet.numbers sheet.before).0 e).is_sheet.within_range
 
-module _ (page bytes : List ℕ) (begins : start_of bytes ≡ 0) where
+module _ (page bytes f : List ℕ) (x : Answer) where
   -- the frame of the sheet
-  abbrev pub behind_built : Result (List ℕ) Refusal
-  behind_built = given_by (behind_answer page bytes) (frame_of (sheet_contents page bytes))
+  abbrev pub BehindBuilt : List ℕ → Type 0
+  BehindBuilt out = Leaves (behind_answer page bytes) (frame_of (sheet_contents page bytes)) f x out
 
-  pub sheet_refused : (r : Refusal) → sheet_read bytes ≡ Err r → Err r ≡ behind_built
-  sheet_refused r e = rw (eq-eqb (start_of bytes) 0 begins, sym (read_answer bytes) ∙ ap answer_of e) refl
+  pub begins_later : (start_of bytes ≡ 0 → ⊥) → x ≡ refused_at TRAILER 0 → BehindBuilt f
+  begins_later e g = rw (ne_eqb (start_of bytes) 0 e) (g, refl)
 
-  pub sheet_built : (sheet : Sheet) → sheet_read bytes ≡ Ok sheet
-      → given_by (contents_answer (carried_contents sheet.numbers page)) (frame_of (carried_contents sheet.numbers page)) ≡ behind_built
-  sheet_built sheet e = rw (eq-eqb (start_of bytes) 0 begins, sym (read_answer bytes) ∙ ap answer_of e, e) refl
+  module _ (begins : start_of bytes ≡ 0) where
+    pub sheet_refused : (r : Refusal) → sheet_read bytes ≡ Err r → x ≡ Err r → BehindBuilt f
+    sheet_refused r e g = rw (eq-eqb (start_of bytes) 0 begins, sym (read_answer bytes) ∙ ap answer_of e) (g, refl)
+
+    pub sheet_built : (sheet : Sheet) (out : List ℕ) → sheet_read bytes ≡ Ok sheet
+        → Leaves (contents_answer (carried_contents sheet.numbers page)) (frame_of (carried_contents sheet.numbers page)) f x out → BehindBuilt out
+    sheet_built sheet out e h = rw (eq-eqb (start_of bytes) 0 begins, sym (read_answer bytes) ∙ ap answer_of e, e) h
 
 -- ---- the input
 
-module _ (input : List ℕ) where
+module _ (input f : List ℕ) (x : Answer) where
   -- the frame of the input
-  abbrev pub input_built : Result (List ℕ) Refusal
-  input_built = given_by (input_answer input) (frame_of (input_contents input))
+  abbrev pub InputBuilt : List ℕ → Type 0
+  InputBuilt out = Leaves (input_answer input) (frame_of (input_contents input)) f x out
 
-  pub too_long : MOST_INPUT < length input → refused_at LENGTH 0 ≡ input_built
+  pub too_long : MOST_INPUT < length input → x ≡ refused_at LENGTH 0 → InputBuilt f
   unfolding input_answer
-  too_long h = rw (lt-leb (length input) MOST_INPUT h) refl
+  too_long h g = rw (lt-leb (length input) MOST_INPUT h) (g, refl)
 
   module _ (short : length input ≤ MOST_INPUT) where
-    pub no_newline : index_of LINE_END input ≡ length input → refused_at LENGTH 0 ≡ input_built
+    pub no_newline : index_of LINE_END input ≡ length input → x ≡ refused_at LENGTH 0 → InputBuilt f
     unfolding input_answer
-    no_newline e = rw (le-leb (length input) MOST_INPUT short, le-ltb (index_of LINE_END input) (length input) (omega (arith, e))) refl
+    no_newline e g =
+        rw (le-leb (length input) MOST_INPUT short, le-ltb (index_of LINE_END input) (length input) (omega (arith, e))) (g, refl)
 
     module _ (newline : index_of LINE_END input < length input) (line : List ℕ) (first : line ≡ first_line input) where
       -- the page bits in it
       abbrev pub line_symbols : Result (List ℕ) Refusal
       line_symbols = given_by (symbols_answer PAGE_BITS line) (symbols_in line)
 
-      pub line_refused : (r : Refusal) → line_symbols ≡ Err r → Err r ≡ input_built
+      pub line_refused : (r : Refusal) → line_symbols ≡ Err r → x ≡ Err r → InputBuilt f
       unfolding input_answer
-      line_refused r e =
+      line_refused r e g =
           rw (
             le-leb (length input) MOST_INPUT short,
             lt-ltb (index_of LINE_END input) (length input) newline,
             sym first,
             refused_is (symbols_answer PAGE_BITS line) (symbols_in line) r e,
-          ) refl
+          ) (g, refl)
 
       line_on : symbols_answer PAGE_BITS (first_line input) ≡ Done
           → input_answer input ≡ behind_answer (symbols_in (first_line input)) (after_first input)
       unfolding input_answer
       line_on e = rw (le-leb (length input) MOST_INPUT short, lt-ltb (index_of LINE_END input) (length input) newline, e) refl
 
-      pub line_taken : (behind page : List ℕ) → behind ≡ after_first input → line_symbols ≡ Ok page
-          → given_by (behind_answer page behind) (frame_of (sheet_contents page behind)) ≡ input_built
+      pub line_taken : (behind page out : List ℕ) → behind ≡ after_first input → line_symbols ≡ Ok page
+          → Leaves (behind_answer page behind) (frame_of (sheet_contents page behind)) f x out → InputBuilt out
       unfolding input_contents
-      line_taken behind page after e =
+      line_taken behind page out after e h =
           let given = given_ok (symbols_answer PAGE_BITS line) (symbols_in line) page e in
-          ap₂ (λ (p b : List ℕ). given_by (behind_answer p b) (frame_of (sheet_contents p b))) (given.1 ∙ ap symbols_in first) after
-          ∙ ap (λ (a : Answer). given_by a (frame_of (input_contents input)))
+          subst (λ (a : Answer). Leaves a (frame_of (input_contents input)) f x out)
           (sym (line_on (ap (symbols_answer PAGE_BITS) (sym first) ∙ given.0)))
+          (rw (given.1 ∙ ap symbols_in first, after) at h)
 
 -- symbols that are taken are bits
 pub taken_bits : (line page : List ℕ) → given_by (symbols_answer PAGE_BITS line) (symbols_in line) ≡ Ok page → IsBits page
@@ -182,18 +180,18 @@ taken_bits line page e =
 -- ---- what is printed
 
 module _ (input : List ℕ) where
-  pub refusal_printed : (r : Refusal) → input_built input ≡ Err r → refusal_text r.number r.place ≡ printed_frame input
+  pub refusal_printed : (r : Refusal) → input_answer input ≡ Err r → refusal_text r.number r.place ≡ printed_frame input
   unfolding printed_frame
-  refusal_printed r e = rw (refused_is (input_answer input) (frame_of (input_contents input)) r e) refl
+  refusal_printed r e = rw e refl
 
-  module _ (f : List ℕ) (built : input_built input ≡ Ok f) where
-    given : (input_answer input ≡ Done) × (f ≡ frame_of (input_contents input))
-    given = given_ok (input_answer input) (frame_of (input_contents input)) f built
+  module _ (built : input_answer input ≡ Done) (f out : List ℕ) (left : out ≡ left_by (input_answer input) (frame_of (input_contents input)) f) where
+    given : out ≡ frame_of (input_contents input)
+    given = left ∙ ap (λ (a : Answer). left_by a (frame_of (input_contents input)) f) built
 
     -- the frame of an input that is done is bits
-    pub frame_bits : IsBits f
-    frame_bits = subst IsBits (sym given.1) (built_right (input_contents input) (done_right input given.0).good).carries.bits
+    pub frame_bits : IsBits out
+    frame_bits = subst IsBits (sym given) (built_right (input_contents input) (done_right input built).good).carries.bits
 
-    pub frame_printed : symbol_line f ≡ printed_frame input
+    pub frame_printed : symbol_line out ≡ printed_frame input
     unfolding printed_frame
-    frame_printed = rw (given.0, given.1) refl
+    frame_printed = rw (built, given) refl

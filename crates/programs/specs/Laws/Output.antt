@@ -131,3 +131,10 @@ output_is text o p none zeros added fits =
     (added.1 ∙ ap₂ (λ (b : List ℕ) (n : ℕ). sets b n text) zeros none
     ∙ sets_front text (replicate OUTPUT_BYTES 0) (omega (arith, length-replicate {A = ℕ} OUTPUT_BYTES 0)))
     size
+
+-- as many bytes as there is room for are there
+pub size_inside : (text : List ℕ) (r : Output) → r ≡ output_of text → r.size ≤ OUTPUT_BYTES → r.size ≤ length r.bytes
+unfolding output_of
+size_inside text r e short =
+    let size : r.size ≡ length text = ap (λ (x : Output). x.size) e in
+    omega (arith, ap (λ (x : Output). length x.bytes) e, length-append text (drop (length text) (replicate OUTPUT_BYTES 0)))
