@@ -1,7 +1,7 @@
 // The functions of `frames::read` on any bytes, on 1800 zeros and on a frame that was built.
 use frames::build::build;
 use frames::read::{Frame, read, read_subframe2, read_subframe3, read_time};
-use show::{done, expected, refused};
+use show::{done, expected, refused, same_counts};
 use words::refusal::{Refusal, refuse};
 use words::time::Time;
 
@@ -123,7 +123,9 @@ fn all_read(text: &[u8], symbols: &[u8], contents: Frame) {
     );
     expected(
         b"  with its counts and page bits",
-        frame.is_ok_and(|frame| frame.counts == contents.counts && frame.page == contents.page),
+        frame.is_ok_and(|frame| {
+            same_counts(&frame.counts, &contents.counts) && frame.page == contents.page
+        }),
     );
     parts_alone(
         symbols,

@@ -48,7 +48,7 @@ pub fn refused<T>(text: &[u8], answer: &Result<T, Refusal>, number: u8, place: u
     expected(text, is_refused(answer, number, place))
 }
 
-// Whether two lists of counts are the same. The trials compare by `==`; this stays for the two wrong programs that its contract refuses.
+// Whether two lists of counts are the same.
 #[tactic(auto, using(crate::proofs::Counts::counts_compared))]
 pub fn same_counts(a: &[i64], b: &[i64]) -> bool
     ensures { SameCounts result a.now b.now }

@@ -175,6 +175,7 @@ fn put_bits(bytes: &mut [u8], at: usize, width: usize, number: u64)
     ensures { bytes.new ≡ sets bytes.old at (bits_of width number) }
 {
     let mut rest = number;
+    // counts the bits that are left, not places: so the compiler sees that they lie side by side
     for left in (0..width).rev() {
         bytes[at + left] = (rest % 2) as u8;
         rest /= 2;
